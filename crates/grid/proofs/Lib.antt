@@ -1,0 +1,5 @@
+pub mod Multiples
+pub mod Runs
+pub mod Ladder
+pub mod Accepted
+pub mod Searches
