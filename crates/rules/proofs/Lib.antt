@@ -1,0 +1,5 @@
+pub mod Beating
+pub mod Reaching
+pub mod Choosing
+pub mod Opened
+pub mod Totalling
