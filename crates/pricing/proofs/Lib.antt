@@ -1,0 +1,4 @@
+pub mod Blank
+pub mod Trying
+pub mod Limits
+pub mod Deciding
