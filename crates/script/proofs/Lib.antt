@@ -1,0 +1,5 @@
+pub mod Cuts
+pub mod Digits
+pub mod Parts
+pub mod Rows
+pub mod Examples
