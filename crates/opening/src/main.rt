@@ -1,0 +1,27 @@
+// Opens call books: reads them line by line from standard input and prints what each auction comes to.
+mod message;
+mod outcome;
+
+use callbook::CallBook;
+use callbook::run_line;
+use message::Message;
+use message::MessageDisplay;
+use outcome::Outcome;
+use outcome::OutcomeDisplay;
+use std::io;
+use std::io::BufRead;
+use std::io::BufReader;
+
+fn main(rt: LibcRuntime) -> io::Result<()> {
+    let mut book = CallBook::new(rt.alloc());
+    for (i, line) in BufReader::new(rt.stdin())
+        .split(rt.alloc(), b'\n')
+        .enumerate() {
+        match run_line(rt.alloc(), &mut book, &line?) {
+            Ok(None) => {}
+            Ok(Some(opening)) => rt.println(Outcome(opening))?,
+            Err(fault) => rt.println(Message { place: i, fault })?,
+        }
+    }
+    Ok(())
+}
