@@ -8,8 +8,8 @@ use Rattle.std.specs.declared.option.Option.{Option}
 use Rattle.std.specs.declared.option.Option.the-variants.{Some, None}
 use Rattle.std.specs.declared.result.Result.{Result}
 use Rattle.std.specs.declared.result.Result.the-variants.{Ok, Err}
-use Rattle.grid.specs.Any.{onAny}
-use Rattle.grid.specs.declared.any.AnyGrid.{AnyGrid}
+use Rattle.ticks.specs.Any.{onAny}
+use Rattle.ticks.specs.declared.any.AnyGrid.{AnyGrid}
 use Rattle.collar.specs.declared.CollarFault.{CollarFault}
 use Rattle.collar.specs.declared.any.AnyCollar.{AnyCollar}
 use Rattle.script.specs.declared.statement.CollarWords.{CollarWords}

@@ -12,7 +12,7 @@ use Rattle.std.specs.declared.option.Option.the-variants.{Some, None}
 use Rattle.std.specs.declared.result.Result.{Result}
 use Rattle.std.specs.declared.result.Result.the-variants.{Ok, Err}
 use Rattle.grid.specs.Prices.{isPrice}
-use Rattle.grid.specs.declared.any.AnyGrid.{AnyGrid}
+use Rattle.ticks.specs.declared.any.AnyGrid.{AnyGrid}
 use Rattle.collar.specs.Any.{allowsAny}
 use Rattle.collar.specs.declared.any.AnyCollar.{AnyCollar}
 use Rattle.rules.specs.declared.order.Order.{Order}

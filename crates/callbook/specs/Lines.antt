@@ -15,12 +15,13 @@ use Rattle.std.specs.declared.result.Result.{Result}
 use Rattle.std.specs.declared.result.Result.the-variants.{Ok, Err}
 use Rattle.grid.specs.Prices.{isPrice}
 use Rattle.grid.specs.Steps.{onSteps}
-use Rattle.grid.specs.Rows.{onRows}
+use Rattle.ticks.specs.Rows.{onRows}
 use Rattle.grid.specs.Decades.{onDecades}
-use Rattle.grid.specs.Setup.{evenFault, tableFault}
-use Rattle.grid.specs.Any.{onAny}
-use Rattle.grid.specs.declared.any.AnyGrid.{AnyGrid}
-use Rattle.grid.specs.declared.row.TickRow.{TickRow}
+use Rattle.grid.specs.Setup.{evenFault}
+use Rattle.ticks.specs.Setup.{tableFault}
+use Rattle.ticks.specs.Any.{onAny}
+use Rattle.ticks.specs.declared.any.AnyGrid.{AnyGrid}
+use Rattle.ticks.specs.declared.row.TickRow.{TickRow}
 use Rattle.collar.specs.Bands.{inBand, within}
 use Rattle.collar.specs.Setup.{bandFault, factorFault}
 use Rattle.collar.specs.Any.{allowsAny}

@@ -15,8 +15,6 @@ use crate::orders::validity_of;
 use collar::AnyCollar;
 use collar::AnyPriceCollar;
 use collar::FixedBand;
-use grid::AnyGrid;
-use grid::AnyPriceGrid;
 use grid::is_price;
 use pricing::MAX_ORDERS;
 use pricing::TooManyOrders;
@@ -26,6 +24,8 @@ use rules::Order;
 use rules::Side;
 use script::OrderPrice;
 use std::alloc::Global;
+use ticks::AnyGrid;
+use ticks::AnyPriceGrid;
 
 #[derive(Drop)]
 pub struct CallBook {

@@ -5,8 +5,8 @@ ghost use Rattle.callbook.specs.declared.fault.BookFault.the-variants.{EvenGri
 use crate::OrderFault;
 use collar::CollarFault;
 use grid::EvenFault;
-use grid::TableFault;
 use std::alloc::Refused;
+use ticks::TableFault;
 
 #[derive(Clone, Copy)]
 pub enum BookFault {

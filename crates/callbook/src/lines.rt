@@ -3,7 +3,7 @@ ghost use mathlib.Core.Path.{_≡_};
 ghost use lib.ListN.{length};
 ghost use Rattle.std.specs.declared.option.Option.the-variants.{None};
 ghost use Rattle.grid.specs.Steps.{onSteps};
-ghost use Rattle.grid.specs.Rows.{onRows};
+ghost use Rattle.ticks.specs.Rows.{onRows};
 ghost use Rattle.grid.specs.Decades.{onDecades};
 ghost use Rattle.callbook.specs.Desks.{deskOf};
 ghost use Rattle.callbook.specs.Lines.{GridNamed, CollarNamed, wordsFault, wordsAllow, evenRefusal, tableRefusal, Applied};
@@ -13,14 +13,14 @@ use crate::collars::collar_of;
 use crate::fault::BookFaultFromCollar;
 use crate::fault::BookFaultFromEven;
 use crate::fault::BookFaultFromTable;
-use grid::AnyGrid;
 use grid::DecadeGrid;
 use grid::EvenGrid;
-use grid::TickRow;
-use grid::TickTable;
 use rules::Opening;
 use script::CollarWords;
 use script::Statement;
+use ticks::AnyGrid;
+use ticks::TickRow;
+use ticks::TickTable;
 
 fn name_even_grid(
     book: &mut CallBook,

@@ -1,5 +1,3 @@
 pub mod Multiples
 pub mod Runs
-pub mod Ladder
-pub mod Accepted
 pub mod Searches

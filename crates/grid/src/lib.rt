@@ -3,17 +3,12 @@ ghost use Prim.Native.Nat.{ℕ};
 ghost use mathlib.Core.Bool.{Bool};
 ghost use Rattle.grid.specs.Neighbours.{Priced, NextAbove, NextBelow, Checked};
 
-mod any;
 mod decade;
 mod even;
 mod found;
 mod price;
-mod row;
 mod setup;
-mod table;
 
-pub use any::AnyGrid;
-pub use any::AnyPriceGrid;
 pub use decade::DecadeGrid;
 pub use decade::DecadePriceGrid;
 pub use even::EvenGrid;
@@ -21,11 +16,7 @@ pub use even::EvenPriceGrid;
 pub use found::neighbours_found;
 pub use price::TOP_PRICE;
 pub use price::is_price;
-pub use row::TickRow;
 pub use setup::EvenFault;
-pub use setup::TableFault;
-pub use table::TablePriceGrid;
-pub use table::TickTable;
 
 // Why a number is not lawful.
 #[derive(Clone, Copy)]

@@ -1,13 +1,11 @@
 // Opens call books: reads them line by line from standard input and prints what each auction comes to.
 mod message;
-mod outcome;
 
 use callbook::CallBook;
 use callbook::run_line;
 use message::Message;
 use message::MessageDisplay;
-use outcome::Outcome;
-use outcome::OutcomeDisplay;
+use rules::OpeningDisplay;
 use std::io;
 use std::io::BufRead;
 use std::io::BufReader;
@@ -19,7 +17,7 @@ fn main(rt: LibcRuntime) -> io::Result<()> {
         .enumerate() {
         match run_line(rt.alloc(), &mut book, &line?) {
             Ok(None) => {}
-            Ok(Some(opening)) => rt.println(Outcome(opening))?,
+            Ok(Some(opening)) => rt.println(opening)?,
             Err(fault) => rt.println(Message { place: i, fault })?,
         }
     }

@@ -8,10 +8,10 @@ use Rattle.std.specs.declared.option.Option.{Option}
 use Rattle.std.specs.declared.option.Option.the-variants.{Some, None}
 use Rattle.grid.specs.Neighbours.{faultAt}
 use Rattle.grid.specs.Steps.{onSteps}
-use Rattle.grid.specs.Rows.{onRows}
+use Rattle.ticks.specs.Rows.{onRows}
 use Rattle.grid.specs.declared.GridFault.{GridFault}
 use Rattle.grid.specs.declared.GridFault.the-variants.{PastLast, BelowFirst, BetweenSteps}
-use Rattle.grid.specs.declared.row.TickRow.{TickRow}
+use Rattle.ticks.specs.declared.row.TickRow.{TickRow}
 use Rattle.collar.specs.Bands.{within}
 use Rattle.rules.specs.declared.order.Order.{Order}
 use Rattle.rules.specs.declared.order.Side.the-variants.{Buy, Sell}

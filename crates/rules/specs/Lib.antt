@@ -5,3 +5,4 @@ pub mod Candidates
 pub mod Openings
 pub mod Winners
 pub mod Examples
+pub mod Printed

@@ -6,6 +6,7 @@ mod order;
 
 pub use examples::examples_stand;
 pub use opening::Opening;
+pub use opening::OpeningDisplay;
 pub use opening::Score;
 pub use order::Order;
 pub use order::Side;

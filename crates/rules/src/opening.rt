@@ -1,6 +1,9 @@
 // What a call auction comes to.
 ghost use mathlib.Core.Path.{_≡_};
+ghost use Rattle.std.specs.declared.option.Option.the-variants.{Some};
 ghost use Rattle.rules.specs.Outranks.{outranks};
+ghost use Rattle.rules.specs.Printed.{outcomeLine};
+use std::fmt;
 
 // A price with what it executes: the volume, and the surplus that it leaves on one side.
 #[derive(Clone, Copy)]
@@ -39,4 +42,17 @@ pub enum Opening {
     Printed { price: u32, volume: u64 },
     // the price that wins, which the collar does not allow
     RefusedByCollar { price: u32 },
+}
+
+// The printed line of an outcome: P price volume, N, or F price.
+pub impl fmt::Display for Opening as OpeningDisplay {
+    ghost shown = { λ o. Some (outcomeLine o) };
+
+    fn fmt<W: fmt::Write>(&self, f: &mut fmt::Formatter<W>) -> fmt::Result {
+        match self {
+            Opening::NoPrice => write!(f, "N"),
+            Opening::Printed { price, volume } => write!(f, "P {price} {volume}"),
+            Opening::RefusedByCollar { price } => write!(f, "F {price}"),
+        }
+    }
 }

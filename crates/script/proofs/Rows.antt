@@ -12,7 +12,7 @@ use Rattle.std.specs.declared.alloc.Global.{Global}
 use Rattle.std.specs.declared.result.Result.{Result}
 use Rattle.std.specs.declared.result.Result.the-variants.{Ok, Err}
 use Rattle.std.specs.declared.vec.Vec.{Vec}
-use Rattle.grid.specs.declared.row.TickRow.{TickRow}
+use Rattle.ticks.specs.declared.row.TickRow.{TickRow}
 use Rattle.script.specs.declared.statement.ScriptFault.{ScriptFault}
 use Rattle.script.specs.declared.statement.ScriptFault.the-variants.{NoMemory}
 use Rattle.script.specs.declared.statement.Statement.{Statement}

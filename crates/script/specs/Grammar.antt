@@ -14,7 +14,7 @@ use Rattle.std.specs.declared.result.Result.{Result}
 use Rattle.std.specs.declared.result.Result.the-variants.{Ok, Err}
 use Rattle.std.specs.declared.vec.Vec.{Vec}
 use Rattle.std.specs.shelf.Text.{sameBytes}
-use Rattle.grid.specs.declared.row.TickRow.{TickRow}
+use Rattle.ticks.specs.declared.row.TickRow.{TickRow}
 use Rattle.script.specs.declared.statement.CollarWords.{CollarWords}
 use Rattle.script.specs.declared.statement.CollarWords.the-variants.{Plain, AroundStatic}
 use Rattle.script.specs.declared.statement.OrderPrice.{OrderPrice}

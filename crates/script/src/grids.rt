@@ -13,8 +13,8 @@ use crate::Statement;
 use crate::cursor::is;
 use crate::statement::ScriptFaultFromRefused;
 use crate::words::Words;
-use grid::TickRow;
 use std::alloc::Global;
+use ticks::TickRow;
 
 // FIRST STEP LAST
 fn even(words: &mut Words) -> Result<Statement, ScriptFault>

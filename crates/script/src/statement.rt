@@ -1,9 +1,9 @@
 // What a line of a call book can say, and what can be wrong with it.
 ghost use mathlib.Core.Path.{_≡_};
 ghost use Rattle.script.specs.declared.statement.ScriptFault.the-variants.{NoMemory};
-use grid::TickRow;
 use rules::Side;
 use std::alloc::Refused;
+use ticks::TickRow;
 
 #[derive(Clone, Copy)]
 pub enum OrderPrice {

@@ -1,7 +1,7 @@
 use mathlib.Core.Path.{refl}
 use Rattle.std.specs.declared.option.Option.the-variants.{None}
 use Rattle.grid.specs.Decades.{onDecades}
-use Rattle.grid.specs.declared.any.AnyGrid.the-variants.{Decade}
+use Rattle.ticks.specs.declared.any.AnyGrid.the-variants.{Decade}
 use Rattle.callbook.specs.Desks.{deskOf}
 use Rattle.callbook.proofs.Naming.{named-grid}
 use Rattle.callbook.proofs.lines.name_decade_grid.Needs as need

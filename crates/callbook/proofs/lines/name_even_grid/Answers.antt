@@ -2,7 +2,7 @@ use mathlib.Core.Path.{_≡_, refl, ap}
 use Prim.Native.Nat.{ℕ}
 use Rattle.std.specs.Options.{mapped}
 use Rattle.grid.specs.Steps.{onSteps}
-use Rattle.grid.specs.declared.any.AnyGrid.the-variants.{Even}
+use Rattle.ticks.specs.declared.any.AnyGrid.the-variants.{Even}
 use Rattle.callbook.specs.declared.fault.BookFault.the-variants.{EvenGridUnfit}
 use Rattle.callbook.specs.Desks.{deskOf}
 use Rattle.callbook.specs.Lines.{evenRefusal}

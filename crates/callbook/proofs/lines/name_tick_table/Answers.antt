@@ -1,8 +1,8 @@
 use mathlib.Core.Path.{ap}
 use lib.ListN.{length}
 use Rattle.std.specs.Options.{mapped}
-use Rattle.grid.specs.Rows.{onRows}
-use Rattle.grid.specs.declared.any.AnyGrid.the-variants.{Table}
+use Rattle.ticks.specs.Rows.{onRows}
+use Rattle.ticks.specs.declared.any.AnyGrid.the-variants.{Table}
 use Rattle.callbook.specs.declared.fault.BookFault.the-variants.{TickTableUnfit}
 use Rattle.callbook.specs.Desks.{deskOf}
 use Rattle.callbook.specs.Lines.{tableRefusal}

@@ -1,6 +1,6 @@
 use mathlib.Core.Path.{refl}
 use Rattle.grid.specs.Neighbours.{firstAbove, firstBelow}
-use Rattle.grid.specs.Rows.{someBelow}
+use Rattle.ticks.specs.Rows.{someBelow}
 use Rattle.rules.specs.Auctions.{buyTotal, sellTotal}
 use Rattle.rules.specs.Candidates.{aroundLimits, bestFrom}
 use Rattle.rules.proofs.examples.examples_stand.Needs as need
