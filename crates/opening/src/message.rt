@@ -16,6 +16,18 @@ pub struct Message {
     pub fault: LineFault,
 }
 
+// What is told of a fault.
+#[derive(Clone, Copy)]
+enum Text {
+    Plain(&'static str),
+    // what is wrong with the word at a place from 1
+    Word(usize, &'static str),
+    // what is wrong with the row at a place from 0
+    Row(usize, &'static str),
+    // a limit, what is wrong with it, and the nearest lawful prices
+    Limit(u32, &'static str, Option<u32>, Option<u32>),
+}
+
 pub impl fmt::Display for Message as MessageDisplay {
     fn fmt<W: fmt::Write>(&self, f: &mut fmt::Formatter<W>) -> fmt::Result {
         let line = self.place.saturating_add(1);
@@ -24,42 +36,51 @@ pub impl fmt::Display for Message as MessageDisplay {
             write!(f, "refused {number}: ")?;
         }
         match self.fault {
-            LineFault::Text(fault) => write_text_fault(f, fault),
-            LineFault::Book(BookFault::OrderUnfit(fault)) => write_order_fault(f, fault),
-            LineFault::Book(BookFault::TickTableUnfit(fault)) => write_table_fault(f, fault),
-            LineFault::Book(fault) => f.write_str(book_text(fault)),
+            LineFault::Text(fault) => write_text(f, script_text(fault)),
+            LineFault::Book(fault) => write_text(f, book_text(fault)),
         }
     }
 }
 
-fn write_text_fault<W: fmt::Write>(f: &mut fmt::Formatter<W>, fault: ScriptFault) -> fmt::Result {
-    let (place, text) = match fault {
-        ScriptFault::UnknownWord(place) => (
-            place,
-            "is none of grid, collar, static, last, buy, sell, open",
-        ),
-        ScriptFault::MissingWord(place) => (place, "is missing"),
-        ScriptFault::ExpectedNumber(place) => (place, "is not a number from 0 to 4294967295"),
-        ScriptFault::UnexpectedWord(place) => (place, "cannot stand there"),
-        ScriptFault::ExtraWord(place) => (place, "is one too many"),
-        ScriptFault::NoMemory => return f.write_str("there is no memory for the line"),
-    };
-    write!(f, "word {place} {text}")
+fn write_text<W: fmt::Write>(f: &mut fmt::Formatter<W>, text: Text) -> fmt::Result {
+    match text {
+        Text::Plain(text) => f.write_str(text),
+        Text::Word(place, text) => write!(f, "word {place} {text}"),
+        Text::Row(place, text) => {
+            let row = place.saturating_add(1);
+            write!(f, "row {row} {text}")
+        }
+        Text::Limit(limit, text, None, None) => write!(f, "limit {limit} is {text}; no price is lawful"),
+        Text::Limit(limit, text, Some(price), None) => write!(f, "limit {limit} is {text}; the nearest lawful price is {price}"),
+        Text::Limit(limit, text, None, Some(price)) => write!(f, "limit {limit} is {text}; the nearest lawful price is {price}"),
+        Text::Limit(limit, text, Some(low), Some(high)) => write!(f, "limit {limit} is {text}; the nearest lawful prices are {low} and {high}"),
+    }
 }
 
-fn book_text(fault: BookFault) -> &'static str {
+fn script_text(fault: ScriptFault) -> Text {
     match fault {
-        BookFault::NoGrid => "no grid is named yet",
-        BookFault::NoStaticPrice => "no static price is named yet",
-        BookFault::NoLastPrice => "no last price is named yet",
-        BookFault::OrdersStand => "the grid cannot be changed while orders stand in the book",
-        BookFault::EvenGridUnfit(fault) => even_text(fault),
-        BookFault::TickTableUnfit(_) => "the rows and the end price make no tick table",
-        BookFault::CollarUnfit(fault) => collar_text(fault),
-        BookFault::NotPrice => "the price is not from 1 to 99999999",
-        BookFault::OrderUnfit(_) => "the order is unfit",
-        BookFault::BookFull => "the book holds 4096 orders",
-        BookFault::NoMemory => "there is no memory for the order",
+        ScriptFault::UnknownWord(place) => Text::Word(place, "is none of grid, collar, static, last, buy, sell, open"),
+        ScriptFault::MissingWord(place) => Text::Word(place, "is missing"),
+        ScriptFault::ExpectedNumber(place) => Text::Word(place, "is not a number from 0 to 4294967295"),
+        ScriptFault::UnexpectedWord(place) => Text::Word(place, "cannot stand there"),
+        ScriptFault::ExtraWord(place) => Text::Word(place, "is one too many"),
+        ScriptFault::NoMemory => Text::Plain("there is no memory for the line"),
+    }
+}
+
+fn book_text(fault: BookFault) -> Text {
+    match fault {
+        BookFault::NoGrid => Text::Plain("no grid is named yet"),
+        BookFault::NoStaticPrice => Text::Plain("no static price is named yet"),
+        BookFault::NoLastPrice => Text::Plain("no last price is named yet"),
+        BookFault::OrdersStand => Text::Plain("the grid cannot be changed while orders stand in the book"),
+        BookFault::EvenGridUnfit(fault) => Text::Plain(even_text(fault)),
+        BookFault::TickTableUnfit(fault) => table_text(fault),
+        BookFault::CollarUnfit(fault) => Text::Plain(collar_text(fault)),
+        BookFault::NotPrice => Text::Plain("the price is not from 1 to 99999999"),
+        BookFault::OrderUnfit(fault) => order_text(fault),
+        BookFault::BookFull => Text::Plain("the book holds 4096 orders"),
+        BookFault::NoMemory => Text::Plain("there is no memory for the order"),
     }
 }
 
@@ -72,6 +93,18 @@ fn even_text(fault: EvenFault) -> &'static str {
     }
 }
 
+fn table_text(fault: TableFault) -> Text {
+    match fault {
+        TableFault::NoRows => Text::Plain("the table has no rows"),
+        TableFault::TooManyRows => Text::Plain("the table has more than 32 rows"),
+        TableFault::StartNotPrice(place) => Text::Row(place, "does not start from 1 to 99999999"),
+        TableFault::RowZeroStep(place) => Text::Row(place, "has a step of 0"),
+        TableFault::StartNotRising(place) => Text::Row(place, "does not start above the row before it"),
+        TableFault::EndNotPrice => Text::Plain("the end price is not from 1 to 99999999"),
+        TableFault::EndBelowLastStart => Text::Plain("the end price is below the start of the last row"),
+    }
+}
+
 fn collar_text(fault: CollarFault) -> &'static str {
     match fault {
         CollarFault::LowNotPrice => "the low price is not from 1 to 99999999",
@@ -81,36 +114,11 @@ fn collar_text(fault: CollarFault) -> &'static str {
     }
 }
 
-fn write_table_fault<W: fmt::Write>(f: &mut fmt::Formatter<W>, fault: TableFault) -> fmt::Result {
-    let (place, text) = match fault {
-        TableFault::StartNotPrice(place) => (place, "does not start from 1 to 99999999"),
-        TableFault::RowZeroStep(place) => (place, "has a step of 0"),
-        TableFault::StartNotRising(place) => (place, "does not start above the row before it"),
-        TableFault::NoRows => return f.write_str("the table has no rows"),
-        TableFault::TooManyRows => return f.write_str("the table has more than 32 rows"),
-        TableFault::EndNotPrice => return f.write_str("the end price is not from 1 to 99999999"),
-        TableFault::EndBelowLastStart => return f.write_str(
-            "the end price is below the start of the last row",
-        ),
-    };
-    let row = place.saturating_add(1);
-    write!(f, "row {row} {text}")
-}
-
-fn write_order_fault<W: fmt::Write>(f: &mut fmt::Formatter<W>, fault: OrderFault) -> fmt::Result {
+fn order_text(fault: OrderFault) -> Text {
     match fault {
-        OrderFault::QuantityOutOfRange => f.write_str("the quantity is not from 1 to 49999999"),
-        OrderFault::NoLimit => f.write_str("a limit order cannot have the limit 0"),
-        OrderFault::LimitUnlawful {
-            limit,
-            fault,
-            below,
-            above,
-        } => {
-            let text = grid_text(fault);
-            write!(f, "limit {limit} is {text}; ")?;
-            write_neighbours(f, below, above)
-        }
+        OrderFault::QuantityOutOfRange => Text::Plain("the quantity is not from 1 to 49999999"),
+        OrderFault::NoLimit => Text::Plain("a limit order cannot have the limit 0"),
+        OrderFault::LimitUnlawful { limit, fault, below, above } => Text::Limit(limit, grid_text(fault), below, above),
     }
 }
 
@@ -119,18 +127,5 @@ fn grid_text(fault: GridFault) -> &'static str {
         GridFault::PastLast => "past the last lawful price",
         GridFault::BelowFirst => "below the first lawful price",
         GridFault::BetweenSteps => "between steps",
-    }
-}
-
-fn write_neighbours<W: fmt::Write>(
-    f: &mut fmt::Formatter<W>,
-    below: Option<u32>,
-    above: Option<u32>,
-) -> fmt::Result {
-    match (below, above) {
-        (Some(low), Some(high)) => write!(f, "the nearest lawful prices are {low} and {high}"),
-        (Some(price), None) => write!(f, "the nearest lawful price is {price}"),
-        (None, Some(price)) => write!(f, "the nearest lawful price is {price}"),
-        (None, None) => f.write_str("no price is lawful"),
     }
 }
