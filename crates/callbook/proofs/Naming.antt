@@ -5,12 +5,11 @@ use Prim.Native.Nat.{ℕ}
 use native.Mathlib.Omega.{arith}
 use Rattle.std.specs.Orderings.{When}
 use Rattle.std.specs.declared.option.Option.{Option}
-use Rattle.std.specs.declared.option.Option.the-variants.{Some, None}
+use Rattle.std.specs.declared.option.Option.the-variants.{None}
 use Rattle.std.specs.declared.result.Result.{Result}
 use Rattle.std.specs.declared.result.Result.the-variants.{Ok, Err}
 use Rattle.ticks.specs.Any.{onAny}
 use Rattle.ticks.specs.declared.any.AnyGrid.{AnyGrid}
-use Rattle.collar.specs.declared.CollarFault.{CollarFault}
 use Rattle.collar.specs.declared.any.AnyCollar.{AnyCollar}
 use Rattle.script.specs.declared.statement.CollarWords.{CollarWords}
 use Rattle.rules.specs.declared.opening.Opening.{Opening}

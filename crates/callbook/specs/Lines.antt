@@ -1,6 +1,6 @@
 -- What a line does to a call book.
 use mathlib.Core.Path.{_≡_}
-use mathlib.Core.Bool.{Bool, _&&_, cond}
+use mathlib.Core.Bool.{Bool, _&&_}
 use mathlib.Core.Logic.{_⊎_}
 use mathlib.Core.List.{List, [], _∷_, _++_}
 use Prim.Native.Nat.{ℕ, _+_, _<_, _≤_}
@@ -8,7 +8,6 @@ use lib.ListN.{length}
 use Rattle.std.specs.Of.Vec.{vec-items}
 use Rattle.std.specs.Orderings.{When}
 use Rattle.std.specs.Options.{mapped}
-use Rattle.std.specs.Results.{Cases}
 use Rattle.std.specs.declared.option.Option.{Option}
 use Rattle.std.specs.declared.option.Option.the-variants.{Some, None}
 use Rattle.std.specs.declared.result.Result.{Result}
@@ -27,6 +26,7 @@ use Rattle.collar.specs.Setup.{bandFault, factorFault}
 use Rattle.collar.specs.Any.{allowsAny}
 use Rattle.collar.specs.declared.CollarFault.{CollarFault}
 use Rattle.collar.specs.declared.any.AnyCollar.{AnyCollar}
+use Rattle.rules.specs.Candidates.{gridOf}
 use Rattle.rules.specs.declared.order.Order.{Order}
 use Rattle.rules.specs.declared.order.Side.{Side}
 use Rattle.rules.specs.declared.order.Side.the-variants.{Buy, Sell}
@@ -37,7 +37,6 @@ use Rattle.rules.specs.Auctions.{auction}
 use Rattle.rules.specs.Openings.{opening}
 use Rattle.rules.specs.Winners.{PriceLaw}
 use Rattle.pricing.specs.Few.{Few}
-use Rattle.pricing.specs.Trials.{gridOf}
 use Rattle.script.specs.declared.statement.CollarWords.{CollarWords}
 use Rattle.script.specs.declared.statement.CollarWords.the-variants.{Plain, AroundStatic}
 use Rattle.script.specs.declared.statement.PlainCollar.{PlainCollar}

@@ -1,6 +1,5 @@
 // A call book: the grid, the collar and the two reference prices that were named, and the orders that stand in it.
 ghost use mathlib.Core.Path.{_≡_};
-ghost use mathlib.Core.List.{[]};
 ghost use Rattle.std.specs.declared.option.Option.the-variants.{Some, None};
 ghost use Rattle.std.specs.Results.{Cases};
 ghost use Rattle.grid.specs.Prices.{isPrice};
@@ -16,7 +15,6 @@ use collar::AnyCollar;
 use collar::AnyPriceCollar;
 use collar::FixedBand;
 use grid::is_price;
-use pricing::MAX_ORDERS;
 use pricing::TooManyOrders;
 use pricing::opening_price;
 use rules::Opening;
@@ -26,6 +24,9 @@ use script::OrderPrice;
 use std::alloc::Global;
 use ticks::AnyGrid;
 use ticks::AnyPriceGrid;
+
+// How many orders a call book holds.
+const CAPACITY: usize = 4_096;
 
 #[derive(Drop)]
 pub struct CallBook {
@@ -117,7 +118,7 @@ impl CallBook {
         };
         let limit = check_order(&grid, quantity, price)?;
         let held = self.buys.len() + self.sells.len();
-        if held >= MAX_ORDERS {
+        if held >= CAPACITY {
             return Err(BookFault::BookFull);
         }
         self.push(

@@ -1,5 +1,4 @@
 // What a line does to a call book.
-ghost use mathlib.Core.Path.{_≡_};
 ghost use lib.ListN.{length};
 ghost use Rattle.std.specs.declared.option.Option.the-variants.{None};
 ghost use Rattle.grid.specs.Steps.{onSteps};

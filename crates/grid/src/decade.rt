@@ -1,6 +1,5 @@
 // The decade grid: a lawful price is a multiple of its step, which is looked up by its number of digits.
 ghost use mathlib.Core.Path.{_≡_};
-ghost use Prim.Native.Nat.{ℕ, _≤_};
 ghost use mathlib.Core.Bool.{true};
 ghost use Rattle.grid.specs.Prices.{isPrice};
 ghost use Rattle.grid.specs.Decades.{digitsOf, stepOf, onDecades};

@@ -12,13 +12,15 @@ use std::io::BufReader;
 
 fn main(rt: LibcRuntime) -> io::Result<()> {
     let mut book = CallBook::new(rt.alloc());
-    for (i, line) in BufReader::new(rt.stdin())
-        .split(rt.alloc(), b'\n')
-        .enumerate() {
-        match run_line(rt.alloc(), &mut book, &line?) {
+    for (place, line) in BufReader::new(rt.stdin()).split(rt.alloc(), b'\n').enumerate() {
+        let Ok(line) = line else {
+            let number = place.saturating_add(1);
+            return println!(rt, "line {number}: it cannot be read, and nothing after it is");
+        };
+        match run_line(rt.alloc(), &mut book, &line) {
             Ok(None) => {}
             Ok(Some(opening)) => rt.println(opening)?,
-            Err(fault) => rt.println(Message { place: i, fault })?,
+            Err(fault) => rt.println(Message { place, fault })?,
         }
     }
     Ok(())

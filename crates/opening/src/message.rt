@@ -86,10 +86,10 @@ fn book_text(fault: BookFault) -> Text {
 
 fn even_text(fault: EvenFault) -> &'static str {
     match fault {
-        EvenFault::FirstNotPrice => "the first price is not from 1 to 99999999",
-        EvenFault::LastNotPrice => "the last price is not from 1 to 99999999",
+        EvenFault::FirstNotPrice => "the first price of the grid is not from 1 to 99999999",
+        EvenFault::LastNotPrice => "the last price of the grid is not from 1 to 99999999",
         EvenFault::ZeroStep => "the step is 0",
-        EvenFault::LastBelowFirst => "the last price is below the first",
+        EvenFault::LastBelowFirst => "the last price of the grid is below its first",
     }
 }
 

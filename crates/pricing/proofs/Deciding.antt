@@ -8,11 +8,11 @@ use Rattle.grid.specs.Neighbours.{Priced}
 use Rattle.rules.specs.declared.opening.Opening.{Opening}
 use Rattle.rules.specs.declared.opening.Score.{Score}
 use Rattle.rules.specs.Auctions.{Auction}
-use Rattle.rules.specs.Candidates.{best}
+use Rattle.rules.specs.Candidates.{gridOf, best}
 use Rattle.rules.specs.Openings.{openingAt, opening}
 use Rattle.rules.specs.Winners.{PriceLaw}
 use Rattle.rules.proofs.Opened.{opening-lawful}
-use Rattle.pricing.specs.Trials.{gridOf, scored, decided}
+use Rattle.pricing.specs.Trials.{scored, decided}
 
 module _ (lawful : ℕ → Bool) (allows : ℕ → ℕ → ℕ → Bool) (static : ℕ) (a : Auction) where
   decides : (o : Option ℕ) → decided allows static (a .last) (scored a o) ≡ openingAt allows static a o

@@ -1,9 +1,9 @@
 -- The limits of a list of orders are tried one after another; in the end the best lawful price is found.
-use mathlib.Core.Path.{_≡_, refl, sym, ap, subst, _∙_}
-use mathlib.Core.List.{List, [], _∷_}
+use mathlib.Core.Path.{_≡_, sym, ap, subst, _∙_}
+use mathlib.Core.List.{List}
 use mathlib.Core.Logic.{_⊎_, inl, inr}
 use mathlib.Core.Bool.{Bool}
-use Prim.Native.Nat.{ℕ, _+_, _<_, _≤_}
+use Prim.Native.Nat.{ℕ, _+_, _<_}
 use native.Mathlib.Omega.{arith}
 use lib.ListN.{length, getD, take}
 use Rattle.std.specs.shelf.Lists.{All}
@@ -13,12 +13,12 @@ use Rattle.std.specs.declared.option.Option.the-variants.{Some, None}
 use Rattle.grid.specs.Neighbours.{Lawful, Priced, NextAbove, NextBelow}
 use Rattle.rules.specs.declared.order.Order.{Order}
 use Rattle.rules.specs.declared.opening.Score.{Score}
-use Rattle.rules.specs.Auctions.{Auction, scoreOf}
-use Rattle.rules.specs.Candidates.{best}
+use Rattle.rules.specs.Auctions.{Auction}
+use Rattle.rules.specs.Candidates.{gridOf, best}
 use Rattle.rules.proofs.Beating.{AsGood}
 use Rattle.rules.proofs.Reaching.{Near, Around, AtLimit, Anchors, reached, covers}
 use Rattle.rules.proofs.Choosing.{Topped, up, down, neighboured, BestOrNone, best-is, best-one}
-use Rattle.pricing.specs.Trials.{gridOf, scored, Beside, Found, Covers, Tried, AroundTried, LimitTried, LimitsTried, SoFar}
+use Rattle.pricing.specs.Trials.{scored, Beside, Found, Covers, Tried, AroundTried, LimitTried, LimitsTried, SoFar}
 use Rattle.pricing.proofs.Blank.{blank}
 use Rattle.pricing.proofs.Trying.{as-good}
 

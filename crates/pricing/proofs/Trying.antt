@@ -1,6 +1,5 @@
 -- One price more is tried: nothing that was covered is lost, and that price is covered.
 use mathlib.Core.Path.{_≡_, refl, sym, ap, subst, _∙_}
-use mathlib.Core.List.{List}
 use mathlib.Core.Logic.{_⊎_, inl, inr}
 use mathlib.Core.Bool.{Bool, true, false, cond}
 use Prim.Native.Nat.{ℕ}
@@ -10,10 +9,9 @@ use Rattle.std.specs.declared.option.Option.{Option}
 use Rattle.std.specs.declared.option.Option.the-variants.{Some, None}
 use Rattle.grid.specs.Neighbours.{Lawful, NextAbove, NextBelow}
 use Rattle.grid.proofs.Searches.{above-one, below-one}
-use Rattle.rules.specs.declared.order.Order.{Order}
 use Rattle.rules.specs.declared.opening.Score.{Score}
 use Rattle.rules.specs.Outranks.{outranks}
-use Rattle.rules.specs.Auctions.{Auction, beats, scoreOf}
+use Rattle.rules.specs.Auctions.{Auction, scoreOf}
 use Rattle.rules.specs.Winners.{LosesTo}
 use Rattle.rules.proofs.Beating.{AsGood, as-good-trans, beats-says, beats-not, loses, beats-from}
 use Rattle.pricing.specs.Trials.{Beside, Found, Covers, chosen, chosenOf, Tried}

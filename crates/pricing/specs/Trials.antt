@@ -10,7 +10,6 @@ use Rattle.std.specs.Options.{Cases}
 use Rattle.std.specs.declared.option.Option.{Option}
 use Rattle.std.specs.declared.option.Option.the-variants.{Some, None}
 use Rattle.grid.specs.Neighbours.{Lawful, NextAbove, NextBelow}
-use Rattle.grid.specs.Prices.{topPrice}
 use Rattle.rules.specs.declared.order.Order.{Order}
 use Rattle.rules.specs.declared.opening.Score.{Score}
 use Rattle.rules.specs.declared.opening.Opening.{Opening}
@@ -19,11 +18,6 @@ use Rattle.grid.specs.Prices.{distance}
 use Rattle.rules.specs.Outranks.{outranks}
 use Rattle.rules.specs.Auctions.{Auction, buyTotal, sellTotal, scoreOf}
 use Rattle.rules.specs.Winners.{LosesTo}
-use Rattle.rules.specs.Candidates.{Grid, best}
-
--- the grid of a meaning, whose lawful prices are prices
-abbrev pub gridOf : (ℕ → Bool) → Grid
-gridOf lawful = record { lawful = lawful; top = topPrice }
 
 -- what p executes, by the orders alone
 abbrev pub scoreBy : List Order → List Order → ℕ → Score

@@ -2,11 +2,12 @@
 ghost use mathlib.Core.Path.{_≡_};
 ghost use Rattle.std.specs.Results.{Cases};
 ghost use Rattle.std.specs.Vec.{made};
+ghost use Rattle.rules.specs.Candidates.{gridOf};
 ghost use Rattle.rules.specs.Auctions.{auction};
 ghost use Rattle.rules.specs.Openings.{opening};
 ghost use Rattle.rules.specs.Winners.{PriceLaw};
 ghost use Rattle.pricing.specs.Few.{Few};
-ghost use Rattle.pricing.specs.Trials.{gridOf, decided};
+ghost use Rattle.pricing.specs.Trials.{decided};
 use crate::best::best_price;
 use collar::Collar;
 use grid::PriceGrid;

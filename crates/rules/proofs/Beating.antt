@@ -1,11 +1,11 @@
 -- The order of prices: the test that the rules use, as a proposition, and that it is an order.
-use mathlib.Core.Path.{_≡_, refl, sym, subst, _∙_}
-use mathlib.Core.Bool.{Bool, true, false, _&&_, _||_}
+use mathlib.Core.Path.{_≡_, sym, subst, _∙_}
+use mathlib.Core.Bool.{Bool, true, false, _&&_}
 use mathlib.Core.Logic.{_⊎_, inl, inr}
 use Prim.Native.Nat.{ℕ, _<_, _≤_}
 use native.Mathlib.Omega.{arith}
 use lib.Dec.{eqb, ltb}
-use Rattle.std.proofs.shelf.Tests.{eqb-true, eqb-false, ltb-true, ltb-false, lt-ltb, eq-eqb, or-cases, or-parts, or-left, or-right, and-parts, and-cases, and-from, cases-eq}
+use Rattle.std.proofs.shelf.Tests.{eqb-true, eqb-false, ltb-true, ltb-false, or-cases, or-parts, and-parts, and-cases, cases-eq}
 use Rattle.grid.specs.Prices.{distance}
 use Rattle.rules.specs.Outranks.{belowOr}
 use Rattle.rules.specs.Auctions.{Auction, volume, surplus, beats}

@@ -1,9 +1,9 @@
 -- The best candidate is as good as every lawful price.
-use mathlib.Core.Path.{_≡_, refl, sym, subst, _∙_}
+use mathlib.Core.Path.{_≡_, refl, sym, subst}
 use mathlib.Core.List.{List, [], _∷_}
-use mathlib.Core.Logic.{_⊎_, inl, inr}
+use mathlib.Core.Logic.{inl, inr}
 use mathlib.Core.Bool.{Bool, true, false, cond}
-use Prim.Native.Nat.{ℕ, _<_, _≤_}
+use Prim.Native.Nat.{ℕ, _≤_}
 use native.Mathlib.Omega.{arith}
 use lib.Dec.{eqb}
 use Rattle.std.specs.shelf.Lists.{All}
@@ -17,7 +17,7 @@ use Rattle.rules.specs.declared.order.Order.{Order}
 use Rattle.rules.specs.Auctions.{Auction, beats}
 use Rattle.rules.specs.Candidates.{Grid, withSome, withLawful, around, aroundLimits, candidates, betterOf, bestFrom, bestOf, best}
 use Rattle.rules.proofs.Beating.{AsGood, beats-says, beats-not, as-good-trans, as-good-both}
-use Rattle.rules.proofs.Reaching.{Best, Neighboured, Near, Around, AtLimit, Anchors, Reached, reached, covers}
+use Rattle.rules.proofs.Reaching.{Best, Neighboured, Around, AtLimit, Anchors, reached, covers}
 
 -- no lawful price is above the top
 abbrev pub Topped : Grid → Type 0

@@ -1,8 +1,8 @@
 -- The opening price keeps the price law.
-use mathlib.Core.Path.{_≡_, refl, sym, ap, subst, _∙_}
-use mathlib.Core.Logic.{_⊎_, inl, inr}
+use mathlib.Core.Path.{_≡_, refl}
+use mathlib.Core.Logic.{inl, inr}
 use mathlib.Core.Bool.{Bool, true, false, cond}
-use Prim.Native.Nat.{ℕ, _<_, _≤_}
+use Prim.Native.Nat.{ℕ, _<_}
 use native.Mathlib.Omega.{arith}
 use lib.Dec.{eqb}
 use Rattle.std.proofs.shelf.Tests.{cases-bool, cond-true, cond-false, eqb-true, eqb-false}
@@ -14,7 +14,7 @@ use Rattle.rules.specs.declared.opening.Opening.the-variants.{NoPrice, Printed
 use Rattle.rules.specs.Auctions.{Auction, volume}
 use Rattle.rules.specs.Candidates.{Grid, best}
 use Rattle.rules.specs.Openings.{openingAt, opening}
-use Rattle.rules.specs.Winners.{Winner, WinnerAnswers, NothingExecutes, PriceLaw}
+use Rattle.rules.specs.Winners.{Winner, NothingExecutes, PriceLaw}
 use Rattle.rules.proofs.Beating.{AsGood, as-good-both, as-good-volume, loses, beats-from}
 use Rattle.rules.proofs.Reaching.{Best}
 use Rattle.rules.proofs.Choosing.{Topped, BestOrNone, best-is}

@@ -5,6 +5,7 @@ use Prim.Native.Nat.{ℕ}
 use lib.Dec.{eqb}
 use Rattle.std.specs.declared.option.Option.{Option}
 use Rattle.std.specs.declared.option.Option.the-variants.{Some, None}
+use Rattle.grid.specs.Prices.{topPrice}
 use Rattle.grid.specs.Neighbours.{nextAbove, nextBelow}
 use Rattle.rules.specs.declared.order.Order.{Order}
 use Rattle.rules.specs.Auctions.{Auction, beats}
@@ -13,6 +14,10 @@ use Rattle.rules.specs.Auctions.{Auction, beats}
 pub record Grid : Type 0 where
   pub lawful : ℕ → Bool
   pub top : ℕ
+
+-- the grid of a meaning whose lawful prices are prices
+abbrev pub gridOf : (ℕ → Bool) → Grid
+gridOf lawful = record { lawful = lawful; top = topPrice }
 
 abbrev pub withSome : Option ℕ → List ℕ → List ℕ
 withSome None ps = ps

@@ -10,16 +10,15 @@ use Rattle.grid.specs.Neighbours.{faultAt}
 use Rattle.grid.specs.Steps.{onSteps}
 use Rattle.ticks.specs.Rows.{onRows}
 use Rattle.grid.specs.declared.GridFault.{GridFault}
-use Rattle.grid.specs.declared.GridFault.the-variants.{PastLast, BelowFirst, BetweenSteps}
-use Rattle.ticks.specs.declared.row.TickRow.{TickRow}
+use Rattle.grid.specs.declared.GridFault.the-variants.{PastLast, BetweenSteps}
 use Rattle.collar.specs.Bands.{within}
 use Rattle.rules.specs.declared.order.Order.{Order}
 use Rattle.rules.specs.declared.order.Side.the-variants.{Buy, Sell}
 use Rattle.rules.specs.declared.order.Validity.the-variants.{Day, Vfu}
 use Rattle.rules.specs.declared.opening.Opening.{Opening}
-use Rattle.rules.specs.declared.opening.Opening.the-variants.{NoPrice, Printed, RefusedByCollar}
+use Rattle.rules.specs.declared.opening.Opening.the-variants.{NoPrice, Printed}
 use Rattle.rules.specs.Auctions.{auction}
-use Rattle.rules.specs.Candidates.{Grid}
+use Rattle.rules.specs.Candidates.{Grid, gridOf}
 use Rattle.rules.specs.Openings.{opening}
 
 abbrev pub buy : ℕ → ℕ → Order
@@ -36,15 +35,15 @@ marketSell quantity = record { number = 2; side = Sell; limit = 0; «open» = qu
 
 -- every price from 1 to 9,999
 abbrev pub everyPrice : Grid
-everyPrice = record { lawful = onSteps 1 1 9999; top = 9999 }
+everyPrice = gridOf (onSteps 1 1 9999)
 
 -- every second price from 100 on
 abbrev pub everySecond : Grid
-everySecond = record { lawful = onSteps 100 2 9999; top = 9999 }
+everySecond = gridOf (onSteps 100 2 9999)
 
--- rows 1 step 1 and 1,000 step 5, end price 2,000
+-- rows 1 step 1 and 1,000 step 5, end price 2,000; numbers are looked at up to 9,999
 abbrev pub twoRows : Grid
-twoRows = record { lawful = onRows (record { start = 1; step = 1 } ∷ (record { start = 1000; step = 5 } ∷ [])) 2 2000; top = 2000 }
+twoRows = record { lawful = onRows (record { start = 1; step = 1 } ∷ (record { start = 1000; step = 5 } ∷ [])) 2 2000; top = 9999 }
 
 abbrev pub everything : ℕ → ℕ → ℕ → Bool
 everything static last p = true

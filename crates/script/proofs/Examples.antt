@@ -9,7 +9,7 @@ use Rattle.script.specs.declared.statement.OrderPrice.the-variants.{Limit, Mar
 use Rattle.script.specs.declared.statement.PlainCollar.the-variants.{FixedBand}
 use Rattle.script.specs.declared.statement.ScriptFault.the-variants.{UnknownWord, MissingWord, ExpectedNumber, UnexpectedWord, ExtraWord}
 use Rattle.rules.specs.declared.order.Side.the-variants.{Buy, Sell}
-use Rattle.script.specs.declared.statement.Statement.the-variants.{Blank, Collar, Order, Open}
+use Rattle.script.specs.declared.statement.Statement.the-variants.{Blank, Collar, Order}
 use Rattle.script.specs.Grammar.{Reading, plain, table, row, statementOf, is, wordHere, numberHere, endHere, even, rowsAfter, rowsHere, tickTable, plainCollar, aroundStatic, collar, orderPrice, order, onePrice, gridOf, statementAs}
 use Rattle.script.specs.Numbers.{digitsAfter}
 use Rattle.script.specs.Words.{isGap, wordsOf}

@@ -1,14 +1,13 @@
 -- What the next word of a line makes of what is left.
-use mathlib.Core.Path.{_≡_, refl, sym, ap, subst, _∙_}
+use mathlib.Core.Path.{_≡_, sym, ap, subst, _∙_}
 use mathlib.Core.List.{List, [], _∷_}
 use Prim.Native.Nat.{ℕ, _+_}
 use native.Mathlib.Omega.{arith}
-use Rattle.std.specs.declared.option.Option.the-variants.{Some, None}
 use Rattle.std.specs.Results.{Cases}
 use Rattle.std.specs.declared.result.Result.{Result}
 use Rattle.std.specs.declared.result.Result.the-variants.{Ok, Err}
 use Rattle.script.specs.declared.statement.ScriptFault.{ScriptFault}
-use Rattle.script.specs.declared.statement.ScriptFault.the-variants.{MissingWord, ExpectedNumber, ExtraWord}
+use Rattle.script.specs.declared.statement.ScriptFault.the-variants.{MissingWord, ExtraWord}
 use Rattle.script.specs.declared.statement.Statement.{Statement}
 use Rattle.script.specs.Grammar.{wordHere, numberAt, numberHere, endHere, statementAs, statementOf, Says}
 use Rattle.script.specs.Numbers.{numberOf}

@@ -15,7 +15,6 @@ use Rattle.std.specs.declared.result.Result.the-variants.{Ok, Err}
 use Rattle.std.specs.declared.vec.Vec.{Vec}
 use Rattle.std.specs.shelf.Text.{sameBytes}
 use Rattle.ticks.specs.declared.row.TickRow.{TickRow}
-use Rattle.script.specs.declared.statement.CollarWords.{CollarWords}
 use Rattle.script.specs.declared.statement.CollarWords.the-variants.{Plain, AroundStatic}
 use Rattle.script.specs.declared.statement.OrderPrice.{OrderPrice}
 use Rattle.script.specs.declared.statement.OrderPrice.the-variants.{Limit, Market}
@@ -55,7 +54,7 @@ wordAfter n (w ∷ ws) = Ok (w, record { read = n + 1; words = ws })
 unfoldable pub wordHere : Left → Part (List ℕ)
 wordHere l = wordAfter (l .read) (l .words)
 
--- the word at a place has to be a numberHere
+-- the word at a place has to be a number
 abbrev pub numberAt : ℕ → Option ℕ → Result ℕ ScriptFault
 numberAt n None = Err (ExpectedNumber n)
 numberAt n (Some x) = Ok x

@@ -1,5 +1,5 @@
 -- Rows whose starts rise: each ends below the next, and all of them are prices.
-use mathlib.Core.Path.{_≡_, refl, sym, ap, subst, _∙_}
+use mathlib.Core.Path.{_≡_, refl, ap, subst, _∙_}
 use mathlib.Core.Bool.{Bool, true, false, cond}
 use mathlib.Core.List.{List}
 use mathlib.Core.Logic.{⊎-elim}
@@ -59,34 +59,46 @@ In t i p = Lawful (inRow (t .rows) (t .count) (t .end) i) p
 abbrev pub On : TickTable → ℕ → Type 0
 On t p = Lawful (onRows (t .rows) (t .count) (t .end)) p
 
+climbs-le : (rows : List TickRow) (n : ℕ) → Rising rows n → (i j : ℕ) → i ≤ j → j < n → startAt rows i ≤ startAt rows j
+climbs-le rows n up i j h k =
+    ⊎-elim
+    (λ (l : i < j). let b = climbs rows n up i j l k in omega arith)
+    (λ (l : j ≤ i). let e : i ≡ j = omega arith in rw e (omega arith))
+    (cases-lt i j)
+
+-- past the end price nothing is lawful
+pub ended : (rows : List TickRow) (n end p : ℕ) → Rising rows n → startAt rows (n - 1) ≤ end → Lawful (onRows rows n end) p → p ≤ end
+ended rows n end p up closed on =
+    let r = which (λ i. inRow rows n end i p) n on in
+    let o = on-told (startAt rows (r .0)) (stepAt rows (r .0)) (lastAt rows n end (r .0)) p (r .2) in
+    let within = o .1 in
+    let b = climbs-le rows n up (r .0 + 1) (n - 1) in
+    grind (arith, tells)
+
 module _ (t : TickTable) where
-  climbs-le : (i j : ℕ) → i ≤ j → j < t .count → startAt (t .rows) i ≤ startAt (t .rows) j
-  climbs-le i j h k =
-      ⊎-elim
-      (λ (l : i < j). let b = climbs (t .rows) (t .count) (t .rising) i j l k in omega arith)
-      (λ (l : j ≤ i). let e : i ≡ j = omega arith in rw e (omega arith))
-      (cases-lt i j)
+  climbs-to : (i j : ℕ) → i ≤ j → j < t .count → startAt (t .rows) i ≤ startAt (t .rows) j
+  climbs-to = climbs-le (t .rows) (t .count) (t .rising)
 
   pub start-low : (i : ℕ) → i < t .count → 1 ≤ startAt (t .rows) i
-  start-low i h = let b = climbs-le 0 i (omega arith) h in let l = t .low in omega arith
+  start-low i h = let b = climbs-to 0 i (omega arith) h in let l = t .low in omega arith
 
   pub start-closed : (i : ℕ) → i < t .count → startAt (t .rows) i ≤ lastAt (t .rows) (t .count) (t .end) i
   start-closed i h =
       let a = t .rising i in
-      let b = climbs-le i (t .count - 1) (omega arith) (omega arith) in
+      let b = climbs-to i (t .count - 1) (omega arith) (omega arith) in
       let l = t .closed in
       grind (arith, tells)
 
   pub last-high : (i : ℕ) → i < t .count → lastAt (t .rows) (t .count) (t .end) i ≤ 99999999
   last-high i h =
-      let b = climbs-le (i + 1) (t .count - 1) in
+      let b = climbs-to (i + 1) (t .count - 1) in
       let l = t .closed in
       let m = t .high in
       grind (arith, tells)
 
   last-below : (i j : ℕ) → i < j → j < t .count → lastAt (t .rows) (t .count) (t .end) i < startAt (t .rows) j
   last-below i j h k =
-      let b = climbs-le (i + 1) j (omega arith) k in
+      let b = climbs-to (i + 1) j (omega arith) k in
       let l = start-low (i + 1) (omega arith) in
       grind (arith, tells)
 

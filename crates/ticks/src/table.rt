@@ -1,11 +1,11 @@
 // A tick table: 1 to 32 rows, each with a start and a step of its own; the last row ends at the end price, and past it
 // there is no price.
 ghost use mathlib.Core.Path.{_≡_};
-ghost use mathlib.Core.Bool.{true};
 ghost use Prim.Native.Nat.{ℕ, _-_, _≤_, _<_};
 ghost use lib.ListN.{length};
 ghost use Rattle.std.specs.Results.{Cases};
 ghost use Rattle.std.specs.declared.option.Option.the-variants.{Some, None};
+ghost use Rattle.grid.specs.Neighbours.{Lawful};
 ghost use Rattle.ticks.specs.Rows.{rowAt, startAt, stepAt, lastAt, onRows, Rising, Stepped};
 ghost use Rattle.ticks.specs.Setup.{rowFault, tableFault};
 use crate::TableFault;
@@ -84,11 +84,12 @@ fn placed(rows: &[TickRow]) -> [TickRow; 32]
 }
 
 impl TickTable {
-    // The table of these rows and this end price, or why they make none.
+    // The table of these rows and this end price, past which nothing is lawful; or why they make none.
     pub fn new(rows: &[TickRow], end: u32) -> Result<TickTable, TableFault>
         ensures { λ r. ⌜ Cases r
             (λ t. (tableFault (now (rows .entry)) end ≡ None)
-            × ((p : ℕ) → onRows (t .rows) (t .count) (t .end) p ≡ onRows (now (rows .entry)) (length (now (rows .entry))) end p))
+            × ((p : ℕ) → onRows (t .rows) (t .count) (t .end) p ≡ onRows (now (rows .entry)) (length (now (rows .entry))) end p)
+            × ((p : ℕ) → Lawful (onRows (t .rows) (t .count) (t .end)) p → p ≤ end))
             (λ f. tableFault (now (rows .entry)) end ≡ Some f) ⌝ }
     {
         validate(rows, end)?;

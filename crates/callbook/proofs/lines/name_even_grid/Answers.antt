@@ -1,5 +1,4 @@
-use mathlib.Core.Path.{_≡_, refl, ap}
-use Prim.Native.Nat.{ℕ}
+use mathlib.Core.Path.{ap}
 use Rattle.std.specs.Options.{mapped}
 use Rattle.grid.specs.Steps.{onSteps}
 use Rattle.ticks.specs.declared.any.AnyGrid.the-variants.{Even}

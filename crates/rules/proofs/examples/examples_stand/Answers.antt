@@ -7,4 +7,4 @@ use Rattle.rules.proofs.examples.examples_stand.Needs as need
 
 pub returns : need.returns
 unfolding firstAbove firstBelow someBelow buyTotal sellTotal aroundLimits bestFrom
-returns c = (refl, (refl, (refl, (refl, (refl, (refl, (refl, (refl, (refl, (refl, (refl, (refl, tt))))))))))))
+returns c = record { nought = refl; rows = (refl, (refl, (refl, (refl, (refl, (refl, (refl, (refl, (refl, (refl, (refl, (refl, tt)))))))))))) }

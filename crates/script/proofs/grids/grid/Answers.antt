@@ -1,4 +1,4 @@
-use mathlib.Core.Path.{refl, sym}
+use mathlib.Core.Path.{refl}
 use Rattle.std.proofs.shelf.Results.{err-from-errBy}
 use Rattle.script.specs.Grammar.{gridOf}
 use Rattle.script.proofs.grids.grid.Needs as need

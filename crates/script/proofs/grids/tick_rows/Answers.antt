@@ -1,5 +1,5 @@
-use mathlib.Core.Logic.{inl, inr}
-use mathlib.Core.Path.{sym, ap, subst}
+use mathlib.Core.Logic.{inr}
+use mathlib.Core.Path.{sym, ap}
 use native.Mathlib.Omega.{arith}
 use Rattle.std.specs.Results.{isOk}
 use Rattle.std.proofs.Told.{chosen}

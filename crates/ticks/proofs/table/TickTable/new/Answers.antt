@@ -1,6 +1,6 @@
 use lib.ListN.{length}
 use Rattle.ticks.proofs.Accepted.{whole, placed}
-use Rattle.ticks.proofs.Ladder.{same-rows}
+use Rattle.ticks.proofs.Ladder.{same-rows, ended}
 use Rattle.ticks.proofs.table.TickTable.new.Needs as need
 
 pub ghost-result : need.ghost-result
@@ -13,4 +13,8 @@ ghost-result c =
 pub returns : need.returns
 returns c =
     let rows = c .args .rows .now in
-    (c .in-Continue-validate .ensures tt, λ p. same-rows (c .placed .result) rows (length rows) (c .args .end) p (c .placed .ensures))
+    let w = whole rows (c .args .end) (c .in-Continue-validate .ensures tt) in
+    let p = placed rows (c .placed .result) (c .args .end) w (c .placed .ensures) in
+    (c .in-Continue-validate .ensures tt,
+     λ x. same-rows (c .placed .result) rows (length rows) (c .args .end) x (c .placed .ensures),
+     λ x. ended (c .placed .result) (length rows) (c .args .end) x (p .rising) (p .closed))
