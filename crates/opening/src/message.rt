@@ -24,8 +24,16 @@ enum Text {
     Word(usize, &'static str),
     // what is wrong with the row at a place from 0
     Row(usize, &'static str),
-    // a limit, what is wrong with it, and the nearest lawful prices
-    Limit(u32, &'static str, Option<u32>, Option<u32>),
+    // a limit, and what is wrong with it
+    Limit(u32, &'static str, Nearest),
+}
+
+// The nearest lawful prices.
+#[derive(Clone, Copy)]
+enum Nearest {
+    Nowhere,
+    One(u32),
+    Two(u32, u32),
 }
 
 pub impl fmt::Display for Message as MessageDisplay {
@@ -50,18 +58,41 @@ fn write_text<W: fmt::Write>(f: &mut fmt::Formatter<W>, text: Text) -> fmt::Resu
             let row = place.saturating_add(1);
             write!(f, "row {row} {text}")
         }
-        Text::Limit(limit, text, None, None) => write!(f, "limit {limit} is {text}; no price is lawful"),
-        Text::Limit(limit, text, Some(price), None) => write!(f, "limit {limit} is {text}; the nearest lawful price is {price}"),
-        Text::Limit(limit, text, None, Some(price)) => write!(f, "limit {limit} is {text}; the nearest lawful price is {price}"),
-        Text::Limit(limit, text, Some(low), Some(high)) => write!(f, "limit {limit} is {text}; the nearest lawful prices are {low} and {high}"),
+        Text::Limit(limit, text, nearest) => {
+            write!(f, "limit {limit} is {text}; ")?;
+            write_nearest(f, nearest)
+        }
+    }
+}
+
+fn write_nearest<W: fmt::Write>(f: &mut fmt::Formatter<W>, nearest: Nearest) -> fmt::Result {
+    match nearest {
+        Nearest::Nowhere => f.write_str("no price is lawful"),
+        Nearest::One(price) => write!(f, "the nearest lawful price is {price}"),
+        Nearest::Two(low, high) => write!(f, "the nearest lawful prices are {low} and {high}"),
+    }
+}
+
+fn nearest_of(below: Option<u32>, above: Option<u32>) -> Nearest {
+    match (below, above) {
+        (Some(low), Some(high)) => Nearest::Two(low, high),
+        (Some(price), None) => Nearest::One(price),
+        (None, Some(price)) => Nearest::One(price),
+        (None, None) => Nearest::Nowhere,
     }
 }
 
 fn script_text(fault: ScriptFault) -> Text {
     match fault {
-        ScriptFault::UnknownWord(place) => Text::Word(place, "is none of grid, collar, static, last, buy, sell, open"),
+        ScriptFault::UnknownWord(place) => Text::Word(
+            place,
+            "is none of grid, collar, static, last, buy, sell, open",
+        ),
         ScriptFault::MissingWord(place) => Text::Word(place, "is missing"),
-        ScriptFault::ExpectedNumber(place) => Text::Word(place, "is not a number from 0 to 4294967295"),
+        ScriptFault::ExpectedNumber(place) => Text::Word(
+            place,
+            "is not a number from 0 to 4294967295",
+        ),
         ScriptFault::UnexpectedWord(place) => Text::Word(place, "cannot stand there"),
         ScriptFault::ExtraWord(place) => Text::Word(place, "is one too many"),
         ScriptFault::NoMemory => Text::Plain("there is no memory for the line"),
@@ -73,7 +104,9 @@ fn book_text(fault: BookFault) -> Text {
         BookFault::NoGrid => Text::Plain("no grid is named yet"),
         BookFault::NoStaticPrice => Text::Plain("no static price is named yet"),
         BookFault::NoLastPrice => Text::Plain("no last price is named yet"),
-        BookFault::OrdersStand => Text::Plain("the grid cannot be changed while orders stand in the book"),
+        BookFault::OrdersStand => Text::Plain(
+            "the grid cannot be changed while orders stand in the book",
+        ),
         BookFault::EvenGridUnfit(fault) => Text::Plain(even_text(fault)),
         BookFault::TickTableUnfit(fault) => table_text(fault),
         BookFault::CollarUnfit(fault) => Text::Plain(collar_text(fault)),
@@ -99,9 +132,14 @@ fn table_text(fault: TableFault) -> Text {
         TableFault::TooManyRows => Text::Plain("the table has more than 32 rows"),
         TableFault::StartNotPrice(place) => Text::Row(place, "does not start from 1 to 99999999"),
         TableFault::RowZeroStep(place) => Text::Row(place, "has a step of 0"),
-        TableFault::StartNotRising(place) => Text::Row(place, "does not start above the row before it"),
+        TableFault::StartNotRising(place) => Text::Row(
+            place,
+            "does not start above the row before it",
+        ),
         TableFault::EndNotPrice => Text::Plain("the end price is not from 1 to 99999999"),
-        TableFault::EndBelowLastStart => Text::Plain("the end price is below the start of the last row"),
+        TableFault::EndBelowLastStart => Text::Plain(
+            "the end price is below the start of the last row",
+        ),
     }
 }
 
@@ -118,7 +156,12 @@ fn order_text(fault: OrderFault) -> Text {
     match fault {
         OrderFault::QuantityOutOfRange => Text::Plain("the quantity is not from 1 to 49999999"),
         OrderFault::NoLimit => Text::Plain("a limit order cannot have the limit 0"),
-        OrderFault::LimitUnlawful { limit, fault, below, above } => Text::Limit(limit, grid_text(fault), below, above),
+        OrderFault::LimitUnlawful {
+            limit,
+            fault,
+            below,
+            above,
+        } => Text::Limit(limit, grid_text(fault), nearest_of(below, above)),
     }
 }
 

@@ -14,7 +14,8 @@ pub returns : need.returns
 returns c =
     let rows = c .args .rows .now in
     let w = whole rows (c .args .end) (c .in-Continue-validate .ensures tt) in
-    let p = placed rows (c .placed .result) (c .args .end) w (c .placed .ensures) in
-    (c .in-Continue-validate .ensures tt,
-     λ x. same-rows (c .placed .result) rows (length rows) (c .args .end) x (c .placed .ensures),
-     λ x. ended (c .placed .result) (length rows) (c .args .end) x (p .rising) (p .closed))
+    let p = placed rows (c .placed .result) (c .args .end) w (c .placed .ensures) in (
+      c .in-Continue-validate .ensures tt,
+      λ x. same-rows (c .placed .result) rows (length rows) (c .args .end) x (c .placed .ensures),
+      λ x. ended (c .placed .result) (length rows) (c .args .end) x (p .rising) (p .closed),
+    )
