@@ -29,8 +29,8 @@ abbrev pub NextBelow : (ℕ → Bool) → ℕ → Option ℕ → Type 0
 NextBelow lawful p None = (x : ℕ) → x < p → Lawful lawful x → ⊥
 NextBelow lawful p (Some q) = (q < p) × Lawful lawful q × ((x : ℕ) → q < x → x < p → Lawful lawful x → ⊥)
 
--- why p is unlawful: past the last when no lawful price is at or above it, else below the first when none is at or
--- below it, else between steps
+-- why p is not lawful: nothing from p up is; or something is, but nothing from p down; or there is something on both
+-- sides, and p lies between
 abbrev pub Unlawful : (ℕ → Bool) → ℕ → GridFault → Type 0
 Unlawful lawful p PastLast = (x : ℕ) → p ≤ x → Lawful lawful x → ⊥
 Unlawful lawful p BelowFirst = ((x : ℕ) × (p ≤ x) × Lawful lawful x) × ((x : ℕ) → x ≤ p → Lawful lawful x → ⊥)

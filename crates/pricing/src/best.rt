@@ -48,7 +48,7 @@ fn lawful_or_none<G: PriceGrid>(grid: &G, x: u32) -> Option<u32>
     }
 }
 
-// Tries a number, so far as lawful, and its lawful neighbours.
+// Tries a number, if it is lawful, and the next lawful prices above and below it.
 fn try_around<G: PriceGrid>(
     grid: &G,
     last: u32,

@@ -8,7 +8,7 @@ ghost use Rattle.pricing.specs.Trials.{scoreBy};
 use rules::Order;
 use rules::Score;
 
-// The buy total at a price: over every buy that is market or limited at or above it.
+// The buy total at a price: what the buys that accept it have open.
 fn buy_total(buys: &[Order], price: u32) -> u64
     requires { ⌜ Few (now buys) ⌝ }
     ensures { λ r. ⌜ r ≡ buyTotal (now (buys .entry)) price ⌝ }
@@ -22,7 +22,7 @@ fn buy_total(buys: &[Order], price: u32) -> u64
     sum
 }
 
-// The sell total at a price: over every sell that is market or limited at or below it.
+// The sell total at a price: what the sells that accept it have open.
 fn sell_total(sells: &[Order], price: u32) -> u64
     requires { ⌜ Few (now sells) ⌝ }
     ensures { λ r. ⌜ r ≡ sellTotal (now (sells .entry)) price ⌝ }

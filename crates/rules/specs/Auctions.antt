@@ -29,11 +29,11 @@ boughtAt p o = cond (acceptsBuying p o) (o .«open») 0
 abbrev pub soldAt : ℕ → Order → ℕ
 soldAt p o = cond (acceptsSelling p o) (o .«open») 0
 
--- the buy total at p: over every buy that is market or limited at or above p
+-- the buy total at p: what the buys that accept p have open
 unfoldable pub buyTotal : List Order → ℕ → ℕ
 buyTotal buys p = total (boughtAt p) buys
 
--- the sell total at p: over every sell that is market or limited at or below p
+-- the sell total at p: what the sells that accept p have open
 unfoldable pub sellTotal : List Order → ℕ → ℕ
 sellTotal sells p = total (soldAt p) sells
 

@@ -26,11 +26,11 @@ withSome (Some p) ps = p ∷ ps
 abbrev pub withLawful : Grid → ℕ → List ℕ → List ℕ
 withLawful g p ps = cond (g .lawful p) (p ∷ ps) ps
 
--- p, so far as lawful, and its lawful neighbours up and down
+-- p itself, if it is lawful, and the next lawful prices above and below it
 abbrev pub around : Grid → ℕ → List ℕ → List ℕ
 around g p ps = withLawful g p (withSome (nextAbove (g .lawful) (g .top) p) (withSome (nextBelow (g .lawful) (g .top) p) ps))
 
--- the same for every limit above 0
+-- the same around the limit of each order that has one
 unfoldable pub aroundLimits : Grid → List Order → List ℕ → List ℕ
 aroundLimits g [] ps = ps
 aroundLimits g (o ∷ os) ps =
@@ -38,7 +38,7 @@ aroundLimits g (o ∷ os) ps =
     let more = around g (o .limit) others in
     cond (eqb (o .limit) 0) others more
 
--- the last price and every limit above 0 on both sides, with their lawful neighbours up and down, so far as lawful
+-- what lies around the last price, and around each limit on both sides
 abbrev pub candidates : Grid → Auction → List ℕ
 candidates g a = around g (a .last) (aroundLimits g (a .buys) (aroundLimits g (a .sells) []))
 

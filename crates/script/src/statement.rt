@@ -11,7 +11,7 @@ pub enum OrderPrice {
     Market,
 }
 
-// A collar that stands by itself. Each k is per mille of a price.
+// A collar that stands by itself. Each k counts thousandths of a price.
 #[derive(Clone, Copy)]
 pub enum PlainCollar {
     Unlimited,

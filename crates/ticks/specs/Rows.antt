@@ -20,7 +20,7 @@ stepAt rows i = rowAt rows i .step
 abbrev pub lastAt : List TickRow → ℕ → ℕ → ℕ → ℕ
 lastAt rows n end i = cond (ltb (i + 1) n) (startAt rows (i + 1) - 1) end
 
--- lawful in row i are its start and every step on
+-- the prices of row i: from its start up by its step
 abbrev pub inRow : List TickRow → ℕ → ℕ → ℕ → ℕ → Bool
 inRow rows n end i = onSteps (startAt rows i) (stepAt rows i) (lastAt rows n end i)
 
