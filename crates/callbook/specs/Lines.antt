@@ -101,7 +101,7 @@ abbrev pub withOrder : Side → Order → Desk → Desk
 withOrder Buy o d = withOrders (d .buys ++ (o ∷ [])) (d .sells) d
 withOrder Sell o d = withOrders (d .buys) (d .sells ++ (o ∷ [])) d
 
--- an order on this grid: taken, or refused by the first that holds; only an order that is taken may find no memory
+-- an order on this grid: taken, or refused by the first that holds; an order that passes every check may find no memory
 abbrev pub OrderTaken : (ℕ → Bool) → Desk → Side → ℕ → OrderPrice → Result Unit BookFault → Desk → Type 0
 OrderTaken lawful d side quantity price (Ok _) d′ =
     (limit : ℕ) × OrderChecked lawful quantity price (Ok limit) × (held d < 4096) × (d′ ≡ withOrder side (orderOf d side quantity price limit) d)
