@@ -102,7 +102,7 @@ fn enter_again<C: Collar>(
     requires wide { let d = desk_of state.old buys.old sells.old stops.old in capacity d + 1 ≤ length report.old }
     ensures { let d = desk_of state.old buys.old sells.old stops.old in
         let d' = desk_of state.new buys.new sells.new stops.new in
-        ((g : Grid) → AgainCame (venue g (allows collar.now)) number limit quantity standing.order d report.old d' report.new result) }
+        ((g : Grid) → AgainCame (venue g (C.allows collar.now)) number limit quantity standing.order d report.old d' report.new result) }
 {
     let lapsed = take_out(state, buys, sells, stops, standing.spot);
     report[0] = ReportLine::Lapse {
@@ -133,7 +133,7 @@ pub fn amend<G: PriceGrid, C: Collar>(
 ) -> Result<Answer, BookFault>
     ensures { let d = desk_of state.old buys.old sells.old stops.old in
         let d' = desk_of state.new buys.new sells.new stops.new in
-        Made (lawful grid.now) (allows collar.now) d (Amend number limit quantity) report.old result d' report.new }
+        Made (G.lawful grid.now) (C.allows collar.now) d (Amend number limit quantity) report.old result d' report.new }
 {
     check_ground(*state, buys, sells, stops, report)?;
     let standing = check_amendment(grid, *state, buys, sells, stops, number, limit, quantity)?;

@@ -71,7 +71,7 @@ pub fn check_amendment<G: PriceGrid>(
     requires sells { state.sells ≤ length sells.now }
     requires stops { state.stops ≤ length stops.now }
     ensures { let b = book_of (desk_of state buys.now sells.now stops.now) in
-        ((allows : ℕ → ℕ → ℕ → Bool) → MayAmend (venue_of (lawful grid.now) allows) number limit quantity b result) }
+        ((allows : ℕ → ℕ → ℕ → Bool) → MayAmend (venue_of (G.lawful grid.now) allows) number limit quantity b result) }
 {
     if let Phase::Ended = state.phase {
         return Err(BookFault::WrongPhase);

@@ -24,7 +24,7 @@ pub fn uncross<G: PriceGrid, C: Collar>(
 ) -> Result<Answer, BookFault>
     ensures { let d = desk_of state.old buys.old sells.old stops.old in
         let d' = desk_of state.new buys.new sells.new stops.new in
-        Made (lawful grid.now) (allows collar.now) d (Uncross next) report.old result d' report.new }
+        Made (G.lawful grid.now) (C.allows collar.now) d (Uncross next) report.old result d' report.new }
 {
     check_ground(*state, buys, sells, stops, report)?;
     let Phase::Call = state.phase else {

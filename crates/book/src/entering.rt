@@ -41,7 +41,7 @@ pub fn enter_order<C: Collar>(
     order: Order,
 ) -> usize
     requires { Roomy state.old buys.old sells.old (length report.old) at }
-    ensures { (g : Grid) → CameBeside (enters_as (venue g (allows collar.now)) order) state.old buys.old sells.old report.old at state.new buys.new sells.new report.new result }
+    ensures { (g : Grid) → CameBeside (enters_as (venue g (C.allows collar.now)) order) state.old buys.old sells.old report.old at state.new buys.new sells.new report.new result }
 {
     if sweeps_at_once(state.phase, order.validity) {
         return sweep_order(collar, state, buys, sells, report, at, order);
@@ -73,7 +73,7 @@ fn enter_ticket<C: Collar>(
         Ready (capacity d) d (length report.old) 0 1 }
     ensures { let d = desk_of state.old buys.old sells.old stops.old in
         let d' = desk_of state.new buys.new sells.new stops.new in
-        ((g : Grid) → Came (capacity d) (entered (venue g (allows collar.now)) ticket (book_of d)) d report.old 0 d' report.new result) }
+        ((g : Grid) → Came (capacity d) (entered (venue g (C.allows collar.now)) ticket (book_of d)) d report.old 0 d' report.new result) }
 {
     if is_stop(ticket.kind) {
         join_stop(state, stops, stop_of(ticket));
@@ -95,7 +95,7 @@ pub fn enter<G: PriceGrid, C: Collar>(
 ) -> Result<Answer, BookFault>
     ensures { let d = desk_of state.old buys.old sells.old stops.old in
         let d' = desk_of state.new buys.new sells.new stops.new in
-        Made (lawful grid.now) (allows collar.now) d (Enter ticket) report.old result d' report.new }
+        Made (G.lawful grid.now) (C.allows collar.now) d (Enter ticket) report.old result d' report.new }
 {
     check_ground(*state, buys, sells, stops, report)?;
     check_ticket(grid, state.phase, ticket)?;

@@ -79,7 +79,7 @@ fn trades_at_once<C: Collar>(
 ) -> bool
     requires buys { state.buys ≤ length buys.now }
     requires sells { state.sells ≤ length sells.now }
-    ensures { (g : Grid) (stops : List Stop) → result ≡ not (is_empty (swept_by (venue g (allows collar.now)) order (book_of (desk_of state buys.now sells.now stops))).trades) }
+    ensures { (g : Grid) (stops : List Stop) → result ≡ not (is_empty (swept_by (venue g (C.allows collar.now)) order (book_of (desk_of state buys.now sells.now stops))).trades) }
 {
     let bought = state.buys;
     let sold = state.sells;
@@ -111,7 +111,7 @@ fn lacks_first_trade<C: Collar>(
 ) -> bool
     requires buys { state.buys ≤ length buys.now }
     requires sells { state.sells ≤ length sells.now }
-    ensures { (g : Grid) (stops : List Stop) → result ≡ isImmediate ticket.validity && is_empty (swept_by (venue g (allows collar.now)) (order_of ticket) (book_of (desk_of state buys.now sells.now stops))).trades }
+    ensures { (g : Grid) (stops : List Stop) → result ≡ isImmediate ticket.validity && is_empty (swept_by (venue g (C.allows collar.now)) (order_of ticket) (book_of (desk_of state buys.now sells.now stops))).trades }
 {
     is_ioc(ticket.validity) && !trades_at_once(collar, state, buys, sells, order_of(ticket))
 }
@@ -130,7 +130,7 @@ pub fn check_queues<C: Collar>(
     requires stops { state.stops ≤ length stops.now }
     requires few { let d = desk_of state buys.now sells.now stops.now in counted d ≤ capacity d }
     ensures { let d = desk_of state buys.now sells.now stops.now in
-        ((g : Grid) → CheckedBy (queue_checks (venue g (allows collar.now)) (capacity d) ticket (book_of d)) result) }
+        ((g : Grid) → CheckedBy (queue_checks (venue g (C.allows collar.now)) (capacity d) ticket (book_of d)) result) }
 {
     if let Some(_) = find_record(state, buys, sells, stops, ticket.number) {
         return Err(BookFault::NumberLive);

@@ -1,4 +1,7 @@
 // The calls on a book: each carries out the rules on a state, three tables and a report that it is lent.
+
+#![tactic(auto)]
+
 mod amending;
 mod amendment;
 mod calling;

@@ -27,7 +27,7 @@ fn open_without_price<C: Collar>(
     requires { Standing (desk_of state.old buys.old sells.old stops.old) (length report.old) }
     ensures { let d = desk_of state.old buys.old sells.old stops.old in
         let d' = desk_of state.new buys.new sells.new stops.new in
-        ((g : Grid) → Came (capacity d) (then_released (venue g (allows collar.now)) (moved (without_vfu (book_of d)) (vfu_lapses (book_of d)))) d report.old 0 d' report.new result) }
+        ((g : Grid) → Came (capacity d) (then_released (venue g (C.allows collar.now)) (moved (without_vfu (book_of d)) (vfu_lapses (book_of d)))) d report.old 0 d' report.new result) }
 {
     let at = open_unprinted(state, buys, sells, report);
     release_stops(collar, state, buys, sells, stops, report, at)
@@ -47,7 +47,7 @@ fn open_at_price<C: Collar>(
     ensures { let d = desk_of state.old buys.old sells.old stops.old in
         let d' = desk_of state.new buys.new sells.new stops.new in
         let b = book_of d in
-        ((g : Grid) → Came (capacity d) (then_released (venue g (allows collar.now)) (moved (without_vfu (printed_at price b)) ((pairs price b.buys b.sells).trades ++ vfu_lapses (printed_at price b)))) d report.old 0 d' report.new result) }
+        ((g : Grid) → Came (capacity d) (then_released (venue g (C.allows collar.now)) (moved (without_vfu (printed_at price b)) ((pairs price b.buys b.sells).trades ++ vfu_lapses (printed_at price b)))) d report.old 0 d' report.new result) }
 {
     let at = print_and_open(price, state, buys, sells, report);
     release_stops(collar, state, buys, sells, stops, report, at)
@@ -67,7 +67,7 @@ pub fn carry_out_opening<C: Collar>(
     requires { Standing (desk_of state.old buys.old sells.old stops.old) (length report.old) }
     ensures { let d = desk_of state.old buys.old sells.old stops.old in
         let d' = desk_of state.new buys.new sells.new stops.new in
-        OpeningCame (allows collar.now) next opening d report.old d' report.new result }
+        OpeningCame (C.allows collar.now) next opening d report.old d' report.new result }
 {
     match opening {
         Opening::RefusedByCollar { .. } => 0,

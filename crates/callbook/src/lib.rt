@@ -1,4 +1,7 @@
 // A call book that is written line by line, and opened.
+
+#![tactic(auto)]
+
 mod book;
 mod collars;
 mod fault;

@@ -28,7 +28,7 @@ pub(crate) fn check_order<G: PriceGrid>(
     quantity: u32,
     price: OrderPrice,
 ) -> Result<u32, OrderFault>
-    ensures { OrderChecked (lawful grid.now) quantity price result }
+    ensures { OrderChecked (G.lawful grid.now) quantity price result }
 {
     if quantity < 1 || quantity > MAX_QUANTITY {
         return Err(OrderFault::QuantityOutOfRange);

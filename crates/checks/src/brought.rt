@@ -10,7 +10,7 @@ use trading::{BookFault, Part, Phase, Ticket, Unlawful};
 
 // A limit or a trigger above 0 has to be lawful.
 pub fn check_lawful<G: PriceGrid>(grid: &G, part: Part, p: u32) -> Result<(), Unlawful>
-    ensures { PartChecked (lawful grid.now) part p result }
+    ensures { PartChecked (G.lawful grid.now) part p result }
 {
     if p == 0 {
         return Ok(());
@@ -35,7 +35,7 @@ fn takes(phase: Phase, validity: Validity) -> bool
 
 // The checks of a ticket that need no look at the queues.
 pub fn check_ticket<G: PriceGrid>(grid: &G, phase: Phase, ticket: Ticket) -> Result<(), BookFault>
-    ensures { CheckedBy (ticket_checks (lawful grid.now) phase ticket) result }
+    ensures { CheckedBy (ticket_checks (G.lawful grid.now) phase ticket) result }
 {
     if !takes(phase, ticket.validity) {
         return Err(BookFault::WrongPhase);

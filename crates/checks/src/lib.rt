@@ -1,4 +1,7 @@
 // What refuses a call: the checks of what is brought and of how the book stands, each in its order.
+
+#![tactic(auto)]
+
 mod brought;
 mod fits;
 mod ground;

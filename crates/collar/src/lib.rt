@@ -1,4 +1,7 @@
 // Price collars: which prices an uncrossing may print, given the static price and the last price.
+
+#![tactic(auto)]
+
 ghost use Rattle.std.specs.Prelude.{◌≡◌, ℕ, Bool};
 
 mod any;

@@ -8,7 +8,7 @@ use crate::PriceGrid;
 // going down the next one below it, and the two together its fault, or none where it is lawful. Nothing is computed.
 pub fn neighbours_found<G: PriceGrid>(grid: &G) -> u8
     ensures nought { result ≡ 0 }
-    ensures found { NeighboursFound (lawful grid.now) }
+    ensures found { NeighboursFound (G.lawful grid.now) }
 {
     0
 }

@@ -1,4 +1,7 @@
 // Price grids: which prices are lawful, whether a number is one of them, and the lawful neighbours of a number.
+
+#![tactic(auto)]
+
 ghost use Rattle.std.specs.Prelude.{ℕ, Bool};
 ghost use Rattle.grid.specs.Neighbours.{Priced, NextAbove, NextBelow, Checked};
 

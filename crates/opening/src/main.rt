@@ -1,4 +1,7 @@
 // Opens call books: reads them line by line from standard input and prints what each auction comes to.
+
+#![tactic(auto)]
+
 mod message;
 
 use callbook::{CallBook, run_line};

@@ -38,7 +38,7 @@ fn try_price(
 
 // A number, if it is lawful.
 fn lawful_or_none<G: PriceGrid>(grid: &G, x: u32) -> Option<u32>
-    ensures { result ≡ (if lawful grid.now x then Some x else None) }
+    ensures { result ≡ (if G.lawful grid.now x then Some x else None) }
 {
     match grid.check(x) {
         Ok(()) => Some(x),
@@ -57,8 +57,8 @@ fn try_around<G: PriceGrid>(
 ) -> Option<Score>
     requires buys { Few buys.now }
     requires sells { Few sells.now }
-    requires found { Found (lawful grid.now) (auction last buys.now sells.now) best }
-    ensures { Tried (lawful grid.now) (auction last buys.now sells.now) best result (Beside (lawful grid.now) x) }
+    requires found { Found (G.lawful grid.now) (auction last buys.now sells.now) best }
+    ensures { Tried (G.lawful grid.now) (auction last buys.now sells.now) best result (Beside (G.lawful grid.now) x) }
 {
     let itself = lawful_or_none(grid, x);
     let above = grid.above(x);
@@ -80,8 +80,8 @@ fn try_limits<G: PriceGrid>(
 ) -> Option<Score>
     requires buys { Few buys.now }
     requires sells { Few sells.now }
-    requires found { Found (lawful grid.now) (auction last buys.now sells.now) best }
-    ensures { LimitsTried (lawful grid.now) (auction last buys.now sells.now) best result orders.now }
+    requires found { Found (G.lawful grid.now) (auction last buys.now sells.now) best }
+    ensures { LimitsTried (G.lawful grid.now) (auction last buys.now sells.now) best result orders.now }
 {
     let mut winner = best;
     let mut tried = 0;
@@ -102,7 +102,7 @@ pub(crate) fn best_price<G: PriceGrid>(
     sells: &[Order],
 ) -> Option<Score>
     requires { (Few buys.now) × (Few sells.now) }
-    ensures { result ≡ scored (auction last buys.now sells.now) (best (grid_of (lawful grid.now)) (auction last buys.now sells.now)) }
+    ensures { result ≡ scored (auction last buys.now sells.now) (best (grid_of (G.lawful grid.now)) (auction last buys.now sells.now)) }
 {
     let from_last = try_around(grid, last, buys, sells, None, last);
     let from_buys = try_limits(grid, last, buys, sells, from_last, buys);

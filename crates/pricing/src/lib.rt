@@ -1,4 +1,7 @@
 // The price of a call auction: the one lawful price that beats every other, on any price grid and under any collar.
+
+#![tactic(auto)]
+
 mod best;
 mod opening;
 mod totals;

@@ -21,7 +21,7 @@ pub struct TooManyOrders;
 
 // What the best price comes to: nothing executes, or the collar is asked.
 fn decide<C: Collar>(collar: &C, static_price: u32, last: u32, best: Option<Score>) -> Opening
-    ensures { result ≡ decided (allows collar.now) static_price last best }
+    ensures { result ≡ decided (C.allows collar.now) static_price last best }
 {
     let Some(best) = best else {
         return Opening::NoPrice;
@@ -52,9 +52,9 @@ pub fn opening_price<G: PriceGrid, C: Collar>(
     sells: &[Order],
 ) -> Result<Opening, TooManyOrders>
     ensures rule { MatchResult result
-        (λ o. Few buys.now × Few sells.now × (o ≡ opening (grid_of (lawful grid.now)) (allows collar.now) static_price (auction last buys.now sells.now)))
+        (λ o. Few buys.now × Few sells.now × (o ≡ opening (grid_of (G.lawful grid.now)) (C.allows collar.now) static_price (auction last buys.now sells.now)))
         (λ _. Few buys.now × Few sells.now → ⊥) }
-    ensures law { IfOk result (λ o. PriceLaw (lawful grid.now) (allows collar.now) static_price (auction last buys.now sells.now) o) }
+    ensures law { IfOk result (λ o. PriceLaw (G.lawful grid.now) (C.allows collar.now) static_price (auction last buys.now sells.now) o) }
 {
     if buys.len() > MAX_ORDERS || sells.len() > MAX_ORDERS {
         return Err(TooManyOrders);

@@ -1,4 +1,7 @@
 // Queues of ranked records, each in the front part of a table that is lent: joining, leaving, looking for a number, adding up.
+
+#![tactic(auto)]
+
 mod queue;
 mod ranked;
 mod records;

@@ -1,5 +1,8 @@
 // The market's types and the rules of the auction price. The rules are definitions in specs/; code in other crates is
 // proved equal to them.
+
+#![tactic(auto)]
+
 mod examples;
 mod opening;
 mod order;

@@ -1,4 +1,7 @@
 // Reads one line of a plain text call book into a statement.
+
+#![tactic(auto)]
+
 mod collars;
 mod cursor;
 mod grids;

@@ -1,4 +1,7 @@
 // What holds of every trading session, of any length, for every price grid and every collar.
+
+#![tactic(auto)]
+
 ghost use Rattle.std.specs.Prelude.{◌≡◌};
 ghost use Rattle.sessions.specs.Laws.{EverySession};
 ghost use Rattle.sessions.specs.Orderly.{ChecksInOrder, OneAnswer, SomeAnswer};

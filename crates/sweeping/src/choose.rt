@@ -25,7 +25,7 @@ pub fn choose_next<C: Collar>(
     last: u32,
     queue: &[Order],
 ) -> Choice
-    ensures { Chosen (allows collar.now static_price) order rest last queue.now result }
+    ensures { Chosen (C.allows collar.now static_price) order rest last queue.now result }
 {
     if rest == 0 {
         return Choice::Stop(Ending::Filled);
@@ -52,7 +52,7 @@ pub fn meets_someone<C: Collar>(
     order: Order,
     queue: &[Order],
 ) -> bool
-    ensures { result ≡ not (is_empty (sweep (allows collar.now static_price) order order.«open» last queue.now).trades) }
+    ensures { result ≡ not (is_empty (sweep (C.allows collar.now static_price) order order.«open» last queue.now).trades) }
 {
     match choose_next(collar, static_price, order, order.open, last, queue) {
         Choice::Stop(_) => false,

@@ -1,5 +1,8 @@
 // Continuous trading, carried out in place on the tables that are lent: an order sweeps the opposite queue, what is left of it
 // is settled, and stops are released. Each function is proved to do what the rules of `trading` say.
+
+#![tactic(auto)]
+
 mod choose;
 mod joining;
 mod meet;

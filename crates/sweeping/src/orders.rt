@@ -32,7 +32,7 @@ pub fn sweep_opposite<C: Collar>(
     order: Order,
 ) -> Unsettled
     requires { Roomy state.old buys.old sells.old (length report.old) at }
-    ensures { SweptBeside (allows collar.now) order state.old buys.old sells.old report.old at state.new buys.new sells.new report.new result }
+    ensures { SweptBeside (C.allows collar.now) order state.old buys.old sells.old report.old at state.new buys.new sells.new report.new result }
 {
     let static_price = state.static_price;
     let last = state.last;
@@ -118,7 +118,7 @@ pub fn sweep_order<C: Collar>(
     order: Order,
 ) -> usize
     requires { Roomy state.old buys.old sells.old (length report.old) at }
-    ensures { (g : Grid) → CameBeside (sweeps (venue g (allows collar.now)) order) state.old buys.old sells.old report.old at state.new buys.new sells.new report.new result }
+    ensures { (g : Grid) → CameBeside (sweeps (venue g (C.allows collar.now)) order) state.old buys.old sells.old report.old at state.new buys.new sells.new report.new result }
 {
     let left = sweep_opposite(collar, state, buys, sells, report, at, order);
     settle_rest(state, buys, sells, report, order, left)

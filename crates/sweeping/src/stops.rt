@@ -74,7 +74,7 @@ pub fn release_at<C: Collar>(
     requires roomy { Roomy state.old buys.old sells.old (length report.old) at }
     requires held { i < state.old.stops }
     requires inside { state.old.stops ≤ length stops.old }
-    ensures { ReleasedAt (allows collar.now) i
+    ensures { ReleasedAt (C.allows collar.now) i
         (desk_of state.old buys.old sells.old stops.old) report.old at
         (desk_of state.new buys.new sells.new stops.new) report.new result }
 {
@@ -99,7 +99,7 @@ pub fn release_stops<C: Collar>(
         Ready (capacity d) d (length report.old) from 0 }
     ensures { let d = desk_of state.old buys.old sells.old stops.old in
         let d' = desk_of state.new buys.new sells.new stops.new in
-        ((g : Grid) → Came (capacity d) (release_all (venue g (allows collar.now)) (book_of d)) d report.old from d' report.new result) }
+        ((g : Grid) → Came (capacity d) (release_all (venue g (C.allows collar.now)) (book_of d)) d report.old from d' report.new result) }
 {
     let mut at = from;
     'releases: while let Some(i) = find_due(*state, stops) {

@@ -33,7 +33,7 @@ pub fn sweep_queue<C: Collar>(
 ) -> AfterSweep
     requires inside { entered ≤ length table.old }
     requires room { from + entered ≤ length report.old }
-    ensures swept { QueueSwept (sweep (allows collar.now static_price) order order.«open» price (take entered table.old)) from report.old report.new (take result.count table.new) result }
+    ensures swept { QueueSwept (sweep (C.allows collar.now static_price) order order.«open» price (take entered table.old)) from report.old report.new (take result.count table.new) result }
     ensures beyond { drop entered table.new ≡ drop entered table.old }
     ensures count { result.count ≤ entered }
     ensures few { result.at ≤ from + entered }

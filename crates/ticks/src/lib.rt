@@ -1,4 +1,7 @@
 // Tick tables, and one type for a grid that is chosen while a program runs.
+
+#![tactic(auto)]
+
 mod any;
 mod row;
 mod setup;

@@ -1,5 +1,8 @@
 // The trading of one share: the types of its book and the rules of every call. The rules are definitions in specs/; code in other
 // crates is proved to carry them out.
+
+#![tactic(auto)]
+
 mod answer;
 mod examples;
 mod fault;

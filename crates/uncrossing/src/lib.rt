@@ -1,4 +1,7 @@
 // The uncrossing of a book at a given price, or without one, in place on lent tables.
+
+#![tactic(auto)]
+
 mod closing;
 mod continuing;
 mod lapsing;
