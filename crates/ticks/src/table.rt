@@ -4,10 +4,11 @@ ghost use Rattle.std.specs.Prelude.{◌≡◌, ℕ, ◌-◌, ◌<◌, ◌≤◌,
 ghost use Rattle.grid.specs.Neighbours.{Lawful};
 ghost use Rattle.ticks.specs.Rows.{row_at, start_at, step_at, last_at, on_rows, Rising, Stepped};
 ghost use Rattle.ticks.specs.Setup.{row_fault, table_fault};
-ghost use Rattle.std.proofs.Common.{rules, arith};
+
+mod lawful;
 
 use crate::{TableFault, TickRow};
-use grid::{EvenGrid, PriceGrid, is_price};
+use grid::{EvenGrid, is_price};
 
 #[derive(Clone, Copy)]
 pub struct TickTable {
@@ -118,31 +119,5 @@ impl TickTable {
             // the table's shape rules this out
             Err(_) => unreachable(),
         }
-    }
-}
-
-impl PriceGrid for TickTable {
-    ghost lawful = { λ t. on_rows t.rows t.count t.end };
-
-    ghost priced = { first_of (Prim.search rules, Prim.grind (arith, Self.row.coded.inj)) };
-
-    fn above(&self, p: u32) -> Option<u32> {
-        for i in 0..self.count {
-            let next = self.row(i).above(p);
-            if next.is_some() {
-                return next;
-            }
-        }
-        None
-    }
-
-    fn below(&self, p: u32) -> Option<u32> {
-        for i in (0..self.count).rev() {
-            let next = self.row(i).below(p);
-            if next.is_some() {
-                return next;
-            }
-        }
-        None
     }
 }

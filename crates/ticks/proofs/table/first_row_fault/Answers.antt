@@ -2,8 +2,8 @@ use Rattle.std.proofs.Common.{arith}
 use Rattle.ticks.proofs.Accepted.{row_not_price, row_no_step, row_not_above, row_fine, row_none}
 use Rattle.ticks.proofs.table.first_row_fault.Goals as goal
 
-pub returns-then-not-is-price : goal.returns-then-not-is-price
-returns-then-not-is-price c =
+pub returns-then-not-is_price : goal.returns-then-not-is_price
+returns-then-not-is_price c =
     let e = row_not_price c.loop-i.i c.loop-i.before c.args.rows.now c.loop-i-test.true (cc) in
     cc
 

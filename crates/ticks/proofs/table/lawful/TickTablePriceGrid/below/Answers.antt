@@ -1,10 +1,10 @@
 use Rattle.std.proofs.Common.{ℕ, ◌-◌, subst, inl, inr, arith}
 use Rattle.std.proofs.lemmas.Bool.{cases_eq}
 use Rattle.ticks.specs.Ladder.{In, row_of, below_found, below_none}
-use Rattle.ticks.proofs.table.TickTablePriceGrid.below.Goals as goal
+use Rattle.ticks.proofs.table.lawful.TickTablePriceGrid.below.Goals as goal
 
-pub returns-then-is-some : goal.returns-then-is-some
-returns-then-is-some c =
+pub returns-then-is_some : goal.returns-then-is_some
+returns-then-is_some c =
     let t = c.args.self.now in
     let next = simp (c.row.ensures.first, c.row.ensures.step, c.row.ensures.last) at c.below-next.ensures in
     below_found t (c.loop-i.i - 1) c.args.p (omega arith) (λ k h. c.loop-i.invariant k (omega arith)) c.below-next.result (cc) next

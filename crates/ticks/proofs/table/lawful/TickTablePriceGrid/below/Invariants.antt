@@ -1,6 +1,6 @@
 use Rattle.std.proofs.Common.{ℕ, ◌<◌, ◌≤◌}
 use Rattle.ticks.specs.Ladder.{In}
-use Rattle.ticks.proofs.table.TickTablePriceGrid.below.Given as goal
+use Rattle.ticks.proofs.table.lawful.TickTablePriceGrid.below.Given as goal
 
 -- none of the rows so far has a price below p
 abbrev pub invariant-loop-i : goal.invariant-loop-i
