@@ -6,5 +6,5 @@ pub returns : goal.returns
 returns g c =
     searched (g.G.PriceGrid.lawful c.args.grid.now) (auction c.args.last c.args.buys.now c.args.sells.now)
     (g.met.G.PriceGrid.priced c.args.grid.now)
-    c.try-around-from-last.result c.try-limits-from-buys.result c.try-limits.result
-    c.try-around-from-last.ensures c.try-limits-from-buys.ensures c.try-limits.ensures
+    c.try_around-from_last.result c.try_limits-from_buys.result c.try_limits.result
+    c.try_around-from_last.ensures c.try_limits-from_buys.ensures c.try_limits.ensures

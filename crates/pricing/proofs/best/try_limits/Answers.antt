@@ -16,7 +16,7 @@ loop-order-preserved g c =
       elim c.if-order-ne0.branch [
         | goal.then-order-ne0+then-order-tried w ↦
             rw w.winner-is (one_tried lawful a best c.loop-order.winner c.loop-order.tried os i c.loop-order-test.true c.loop-order.invariant.1
-            w.try-around-winner.result c.if-order-ne0.tried w.tried-is w.try-around-winner.ensures)
+            w.try_around-winner.result c.if-order-ne0.tried w.tried-is w.try_around-winner.ensures)
         | goal.else-order-ne0 w ↦ rw (w.winner-is, w.tried-is) (skipped (elim w.else-order-ne0.branch [
           | goal.else-order-ne0-via-then-order-ne0+else-order-tried v ↦ inr v.if-order-tried.false
           | goal.else-order-ne0-via-else-order-ne0 v ↦ inl v.if-order-ne0.false

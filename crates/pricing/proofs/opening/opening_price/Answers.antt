@@ -8,7 +8,7 @@ returns g c =
     let lawful = g.G.PriceGrid.lawful c.args.grid.now in
     let allows = g.C.Collar.allows c.args.collar.now in
     let a = auction c.args.last c.args.buys.now c.args.sells.now in
-    let rule = is_opening lawful allows c.args.static_price a c.best-price.result c.decide.result c.best-price.ensures c.decide.ensures in
+    let rule = is_opening lawful allows c.args.static_price a c.best_price.result c.decide.result c.best_price.ensures c.decide.ensures in
     record {
       rule = (omega arith, omega arith, rule);
       law = keeps_law lawful allows c.args.static_price a (g.met.G.PriceGrid.priced c.args.grid.now) c.decide.result rule;

@@ -11,12 +11,12 @@ loop-order-preserved c =
     let i = c.loop-order.order-index in
     let o = get_or c.args.buys.now i blank in
     let e = total_more (bought_at c.args.price) c.args.buys.now i blank c.loop-order-test.true in
-    elim c.if-accepts-buying.branch [
-      | goal.then-accepts-buying w ↦
-          let k = cond-true (accepts_buying c.args.price o) o.«open» 0 (sym w.if-accepts-buying.ensures) in
+    elim c.if-accepts_buying.branch [
+      | goal.then-accepts_buying w ↦
+          let k = cond-true (accepts_buying c.args.price o) o.«open» 0 (sym w.if-accepts_buying.ensures) in
           (omega arith, omega (arith, w.sum-is), omega (arith, w.sum-is, k, e, c.loop-order.invariant.2))
-      | goal.else-accepts-buying w ↦
-          let k = cond-false (accepts_buying c.args.price o) o.«open» 0 (sym w.if-accepts-buying.ensures) in
+      | goal.else-accepts_buying w ↦
+          let k = cond-false (accepts_buying c.args.price o) o.«open» 0 (sym w.if-accepts_buying.ensures) in
           (omega arith, omega (arith, w.sum-is), omega (arith, w.sum-is, k, e, c.loop-order.invariant.2))
     ]
 

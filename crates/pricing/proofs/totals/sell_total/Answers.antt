@@ -11,12 +11,12 @@ loop-order-preserved c =
     let i = c.loop-order.order-index in
     let o = get_or c.args.sells.now i blank in
     let e = total_more (sold_at c.args.price) c.args.sells.now i blank c.loop-order-test.true in
-    elim c.if-accepts-selling.branch [
-      | goal.then-accepts-selling w ↦
-          let k = cond-true (accepts_selling c.args.price o) o.«open» 0 (sym w.if-accepts-selling.ensures) in
+    elim c.if-accepts_selling.branch [
+      | goal.then-accepts_selling w ↦
+          let k = cond-true (accepts_selling c.args.price o) o.«open» 0 (sym w.if-accepts_selling.ensures) in
           (omega arith, omega (arith, w.sum-is), omega (arith, w.sum-is, k, e, c.loop-order.invariant.2))
-      | goal.else-accepts-selling w ↦
-          let k = cond-false (accepts_selling c.args.price o) o.«open» 0 (sym w.if-accepts-selling.ensures) in
+      | goal.else-accepts_selling w ↦
+          let k = cond-false (accepts_selling c.args.price o) o.«open» 0 (sym w.if-accepts_selling.ensures) in
           (omega arith, omega (arith, w.sum-is), omega (arith, w.sum-is, k, e, c.loop-order.invariant.2))
     ]
 
