@@ -8,7 +8,7 @@ use crate::{Numbered, Queue, Ranked};
 
 // Where the first record with a number stands in a queue.
 pub fn find_number<R: Numbered>(queue: &[R], number: u32) -> Option<usize>
-    ensures { FirstFound (λ x. nat_eq (tag x) number) queue.now result }
+    ensures { FirstFound (λ x. nat_eq (R.tag x) number) queue.now result }
 {
     for (i, x) in queue.iter().enumerate() {
         if x.number() == number {
@@ -21,7 +21,7 @@ pub fn find_number<R: Numbered>(queue: &[R], number: u32) -> Option<usize>
 // A record joins the queue of the first `count` records of a table.
 pub fn join_table<R: Ranked + Copy>(table: &mut [R], count: usize, r: R)
     requires { count < length table.old }
-    ensures queue { take (count + 1) table.new ≡ joined ahead r (take count table.old) }
+    ensures queue { take (count + 1) table.new ≡ joined R.ahead r (take count table.old) }
     ensures beyond { drop (count + 1) table.new ≡ drop (count + 1) table.old }
 {
     let mut queue = Queue::new(table, count);

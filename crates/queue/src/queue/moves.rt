@@ -9,7 +9,7 @@ use crate::{Numbered, Ranked, find_number};
 
 // Where a record joins a queue: before the first record that it is ahead of, else at the end.
 fn place_of<R: Ranked>(queue: &[R], r: &R) -> usize
-    ensures place { result ≡ first_place (ahead r.now) queue.now }
+    ensures place { result ≡ first_place (R.ahead r.now) queue.now }
     ensures within { result ≤ length queue.now }
 {
     for (i, x) in queue.iter().enumerate() {
@@ -47,7 +47,7 @@ impl<'a, R: Ranked + Copy> Queue<'a, R> {
 
     // The sum of the quantities.
     pub fn total(&self) -> u128
-        ensures { result ≡ total amount (listed self.now) }
+        ensures { result ≡ total R.amount (listed self.now) }
     {
         let mut sum = 0;
         for x in self.as_slice() {
@@ -59,7 +59,7 @@ impl<'a, R: Ranked + Copy> Queue<'a, R> {
     // A record joins, before the first that it is ahead of, else at the end.
     pub fn join(&mut self, r: R)
         requires { self.old.count < room self.old }
-        ensures { Joined ahead r self.old self.new }
+        ensures { Joined R.ahead r self.old self.new }
     {
         let at = place_of(self.as_slice(), &r);
         for i in (at..self.count).rev() {
@@ -72,7 +72,7 @@ impl<'a, R: Ranked + Copy> Queue<'a, R> {
     // The record at a place leaves, and those behind it move up.
     pub fn leave(&mut self, i: usize)
         requires { i < self.old.count }
-        ensures { Left ahead i self.old self.new }
+        ensures { Left R.ahead i self.old self.new }
     {
         self.count -= 1;
         for k in i..self.count {
@@ -84,7 +84,7 @@ impl<'a, R: Ranked + Copy> Queue<'a, R> {
 impl<'a, R: Ranked + Numbered + Copy> Queue<'a, R> {
     // Where the first record with a number stands.
     pub fn find(&self, number: u32) -> Option<usize>
-        ensures { FirstFound (λ x. nat_eq (tag x) number) (listed self.now) result }
+        ensures { FirstFound (λ x. nat_eq (R.tag x) number) (listed self.now) result }
     {
         find_number(self.as_slice(), number)
     }

@@ -30,10 +30,10 @@ returns g c =
     let r = c.args.r in
     let s = c.loop-i.self.records.now in
     let n = c.loop-i.self.count + 1 in
-    let i = c.place-of-at.result in
+    let i = c.place_of-at.result in
     let was = listed c.args.self.now in
     let at : i ≡ c.loop-i.i = omega arith in
-    let place = c.place-of-at.ensures.place ∙ ap (first_place (ahead r)) c.as-slice.ensures.queue in
+    let place = c.place_of-at.ensures.place ∙ ap (first_place (ahead r)) c.as_slice.ensures.queue in
     let queue = gap_filled ahead r s was n i (omega arith) (omega arith) (ap (remove (take n s)) at ∙ c.loop-i.invariant.0) place in
     record {
       queue = queue;
