@@ -42,7 +42,7 @@ impl Fitting for StopOrder {
 }
 
 fn all_fit<R: Fitting>(queue: &[R], side: Side) -> bool
-    ensures { result ≡ all_pass (fits side) queue.now }
+    ensures { result ≡ all_pass (R.fits side) queue.now }
 {
     for x in queue {
         if !x.is_fit(side) {
@@ -54,7 +54,7 @@ fn all_fit<R: Fitting>(queue: &[R], side: Side) -> bool
 
 // No record is ahead of the one before it.
 fn in_order<R: Ranked>(queue: &[R]) -> bool
-    ensures { result ≡ in_order ahead queue.now }
+    ensures { result ≡ in_order R.ahead queue.now }
 {
     for i in 1..queue.len() {
         if queue[i].precedes(&queue[i - 1]) {
@@ -67,7 +67,7 @@ fn in_order<R: Ranked>(queue: &[R]) -> bool
 // The first `count` records of a table fit the side, and stand in order.
 pub fn begins_with_queue<R: Fitting + Ranked>(table: &[R], count: usize, side: Side) -> bool
     requires { count ≤ length table.now }
-    ensures { result ≡ (all_pass (fits side) (take count table.now) && in_order ahead (take count table.now)) }
+    ensures { result ≡ (all_pass (R.fits side) (take count table.now) && in_order R.ahead (take count table.now)) }
 {
     let queue = &table[0..count];
     all_fit(queue, side) && in_order(queue)

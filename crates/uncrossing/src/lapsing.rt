@@ -41,7 +41,7 @@ impl Lapsing for StopOrder {
 // Writes a lapse line for each record of a queue, from `at` on, and answers the place after them.
 pub(crate) fn write_lapses<R: Lapsing>(queue: &[R], report: &mut [ReportLine], at: usize) -> usize
     requires { at + length queue.now ≤ length report.old }
-    ensures lines { report.new ≡ written_at report.old at (lapses_by lapse queue.now) }
+    ensures lines { report.new ≡ written_at report.old at (lapses_by R.lapse queue.now) }
     ensures place { result ≡ at + length queue.now }
 {
     for (i, record) in queue.iter().enumerate() {

@@ -9,8 +9,8 @@ use Rattle.book.proofs.amending.cut_order.Goals as goal
 
 pub returns : goal.returns
 returns c =
-    let x = c.put-order in
-    let w = c.write-cut in
+    let x = c.put_order in
+    let w = c.write_cut in
     let st = c.args.standing in
     record {
       came = λ stops fit s.

@@ -6,8 +6,8 @@ use Rattle.book.proofs.amending.enter_again.Goals as goal
 pub returns : goal.returns
 returns g c = λ grid.
     let d = desk_of c.args.state.now c.args.buys.now c.args.sells.now c.args.stops.now in
-    let t = c.take-out-lapsed in
-    let x = c.enter-order in
+    let t = c.take_out-lapsed in
+    let x = c.enter_order in
     let d' = desk_of t.new.state t.new.buys t.new.sells t.new.stops in
     let d'' = desk_of x.new.state x.new.buys x.new.sells t.new.stops in
     let out = t.ensures c.args.number c.requires.stands.at in

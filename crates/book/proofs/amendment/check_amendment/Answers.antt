@@ -6,20 +6,20 @@ use Rattle.book.proofs.Calls.{not_ended}
 use Rattle.book.proofs.Amends.{no_pair, no_limit, may_amend}
 use Rattle.book.proofs.amendment.check_amendment.Goals as goal
 
-pub returns-then-not-both-or-neither-market : goal.returns-then-not-both-or-neither-market
-returns-then-not-both-or-neither-market g c allows =
+pub returns-then-not-both_or_neither_market : goal.returns-then-not-both_or_neither_market
+returns-then-not-both_or_neither_market g c allows =
     let b = book_of (desk_of c.args.state c.args.buys.now c.args.sells.now c.args.stops.now) in
-    no_pair (venue_of (g.G.PriceGrid.lawful c.args.grid.now) allows) c.args.number c.args.limit c.args.quantity b c.in-Some.standing c.in-Some.ensures (not_ended _ c.in-default.not-Ended) (sym c.if-not-is-number.ensures) (sym c.if-not-is-quantity.ensures) (sym c.if-not-both-or-neither-market.ensures)
+    no_pair (venue_of (g.G.PriceGrid.lawful c.args.grid.now) allows) c.args.number c.args.limit c.args.quantity b c.in-Some.standing c.in-Some.ensures (not_ended _ c.in_default.not-Ended) (sym c.if-not-is_number.ensures) (sym c.if-not-is_quantity.ensures) (sym c.if-not-both_or_neither_market.ensures)
 
-pub returns-in-err-check-lawful : goal.returns-in-err-check-lawful
-returns-in-err-check-lawful g c allows =
-    let p = err_from_is_err_and c.from-residual.result c.from-residual.ensures.1 in
-    let u = c.in-err-check-lawful.ensures in
+pub returns-in_err-check_lawful : goal.returns-in_err-check_lawful
+returns-in_err-check_lawful g c allows =
+    let p = err_from_is_err_and c.from_residual.result c.from_residual.ensures.1 in
+    let u = c.in_err-check_lawful.ensures in
     let b = book_of (desk_of c.args.state c.args.buys.now c.args.sells.now c.args.stops.now) in
-    let told = no_limit (venue_of (g.G.PriceGrid.lawful c.args.grid.now) allows) c.args.number c.args.limit c.args.quantity b c.in-Some.standing c.in-Some.ensures (not_ended _ c.in-default.not-Ended) (sym c.if-not-is-number.ensures) (sym c.if-not-is-quantity.ensures) (sym c.if-not-both-or-neither-market.ensures) u.0 in
+    let told = no_limit (venue_of (g.G.PriceGrid.lawful c.args.grid.now) allows) c.args.number c.args.limit c.args.quantity b c.in-Some.standing c.in-Some.ensures (not_ended _ c.in_default.not-Ended) (sym c.if-not-is_number.ensures) (sym c.if-not-is_quantity.ensures) (sym c.if-not-both_or_neither_market.ensures) u.0 in
     rw (p.1, p.2, u.1) told
 
 pub returns : goal.returns
 returns g c allows =
     let b = book_of (desk_of c.args.state c.args.buys.now c.args.sells.now c.args.stops.now) in
-    (may_amend (venue_of (g.G.PriceGrid.lawful c.args.grid.now) allows) c.args.number c.args.limit c.args.quantity b c.in-Some.standing c.in-Some.ensures (not_ended _ c.in-default.not-Ended) (sym c.if-not-is-number.ensures) (sym c.if-not-is-quantity.ensures) (sym c.if-not-both-or-neither-market.ensures) c.in-ok-check-lawful.ensures, c.in-Some.ensures)
+    (may_amend (venue_of (g.G.PriceGrid.lawful c.args.grid.now) allows) c.args.number c.args.limit c.args.quantity b c.in-Some.standing c.in-Some.ensures (not_ended _ c.in_default.not-Ended) (sym c.if-not-is_number.ensures) (sym c.if-not-is_quantity.ensures) (sym c.if-not-both_or_neither_market.ensures) c.in_ok-check_lawful.ensures, c.in-Some.ensures)

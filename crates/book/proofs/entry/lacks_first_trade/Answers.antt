@@ -8,9 +8,9 @@ use Rattle.sweeping.specs.Beside.{venue}
 use Rattle.book.proofs.Entries.{lacking}
 use Rattle.book.proofs.entry.lacks_first_trade.Goals as goal
 
-pub returns-then-is-ioc : goal.returns-then-is-ioc
-returns-then-is-ioc g c = λ grid stops.
+pub returns-then-is_ioc : goal.returns-then-is_ioc
+returns-then-is_ioc g c = λ grid stops.
     let v = venue grid (g.C.Collar.allows c.args.collar.now) in
     let b = book_of (desk_of c.args.state c.args.buys.now c.args.sells.now stops) in
-    lacking (is_ioc c.args.ticket.validity) c.trades-at-once.result (is_empty (swept_by v (order_of c.args.ticket) b).trades) (sym c.if-is-ioc.ensures)
-    (c.trades-at-once.ensures grid stops ∙ ap (λ (o : Order). not (is_empty (swept_by v o b).trades)) c.order-of.ensures)
+    lacking (is_ioc c.args.ticket.validity) c.trades_at_once.result (is_empty (swept_by v (order_of c.args.ticket) b).trades) (sym c.if-is_ioc.ensures)
+    (c.trades_at_once.ensures grid stops ∙ ap (λ (o : Order). not (is_empty (swept_by v o b).trades)) c.order_of.ensures)

@@ -7,8 +7,8 @@ use Rattle.book.proofs.Coming.{ready_from}
 use Rattle.book.proofs.Openings.{opening_as, trading_unprinted, closed_unprinted, trading_printed, closed_printed}
 use Rattle.book.proofs.opening.carry_out_opening.Goals as goal
 
-pub print-and-close-requires : goal.print-and-close-requires
-print-and-close-requires g c =
+pub print_and_close-requires : goal.print_and_close-requires
+print_and_close-requires g c =
     let d = desk_of c.args.state.now c.args.buys.now c.args.sells.now c.args.stops.now in
     record {
       fit = record { buys = c.requires.counts.buys; sells = c.requires.counts.sells; stops = c.requires.counts.stops; lines = omega (arith, c.requires.few, c.requires.wide) };
@@ -19,22 +19,22 @@ pub returns-in-Trading : goal.returns-in-Trading
 returns-in-Trading g c grid =
     let d = desk_of c.args.state.now c.args.buys.now c.args.sells.now c.args.stops.now in
     let v = venue grid (g.C.Collar.allows c.args.collar.now) in
-    opening_as (capacity d) v _ _ (book_of d) _ _ d c.args.report.now _ _ _ c.in-Trading.is c.in-NoPrice.is (trading_unprinted (capacity d) v d c.args.report.now _ _ _ (c.open-without-price.ensures grid))
+    opening_as (capacity d) v _ _ (book_of d) _ _ d c.args.report.now _ _ _ c.in-Trading.is c.in-NoPrice.is (trading_unprinted (capacity d) v d c.args.report.now _ _ _ (c.open_without_price.ensures grid))
 
 pub returns-in-Close : goal.returns-in-Close
 returns-in-Close g c grid =
     let d = desk_of c.args.state.now c.args.buys.now c.args.sells.now c.args.stops.now in
     let v = venue grid (g.C.Collar.allows c.args.collar.now) in
-    opening_as (capacity d) v _ _ (book_of d) _ _ d c.args.report.now _ _ _ c.in-Close.is c.in-NoPrice.is (closed_unprinted (capacity d) v d c.args.report.now _ _ _ (c.close-unprinted.ensures.came (capacity d)))
+    opening_as (capacity d) v _ _ (book_of d) _ _ d c.args.report.now _ _ _ c.in-Close.is c.in-NoPrice.is (closed_unprinted (capacity d) v d c.args.report.now _ _ _ (c.close_unprinted.ensures.came (capacity d)))
 
 pub returns-in-Trading-next : goal.returns-in-Trading-next
 returns-in-Trading-next g c grid =
     let d = desk_of c.args.state.now c.args.buys.now c.args.sells.now c.args.stops.now in
     let v = venue grid (g.C.Collar.allows c.args.collar.now) in
-    opening_as (capacity d) v _ _ (book_of d) _ _ d c.args.report.now _ _ _ c.in-Trading-next.is c.in-Printed.is (trading_printed (capacity d) v d c.args.report.now _ _ _ c.in-Printed.price c.in-Printed.volume (c.open-at-price.ensures grid))
+    opening_as (capacity d) v _ _ (book_of d) _ _ d c.args.report.now _ _ _ c.in-Trading-next.is c.in-Printed.is (trading_printed (capacity d) v d c.args.report.now _ _ _ c.in-Printed.price c.in-Printed.volume (c.open_at_price.ensures grid))
 
 pub returns-in-Close-next : goal.returns-in-Close-next
 returns-in-Close-next g c grid =
     let d = desk_of c.args.state.now c.args.buys.now c.args.sells.now c.args.stops.now in
     let v = venue grid (g.C.Collar.allows c.args.collar.now) in
-    opening_as (capacity d) v _ _ (book_of d) _ _ d c.args.report.now _ _ _ c.in-Close-next.is c.in-Printed.is (closed_printed (capacity d) v d c.args.report.now _ _ _ c.in-Printed.price c.in-Printed.volume (c.print-and-close.ensures.came (capacity d) (ready_from d _ c.requires)))
+    opening_as (capacity d) v _ _ (book_of d) _ _ d c.args.report.now _ _ _ c.in-Close-next.is c.in-Printed.is (closed_printed (capacity d) v d c.args.report.now _ _ _ c.in-Printed.price c.in-Printed.volume (c.print_and_close.ensures.came (capacity d) (ready_from d _ c.requires)))

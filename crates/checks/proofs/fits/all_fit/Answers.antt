@@ -5,8 +5,8 @@ use Rattle.checks.proofs.fits.all_fit.Goals as goal
 pub loop-x-preserved : goal.loop-x-preserved
 loop-x-preserved g c = search (rules, pass_yes)
 
-pub returns-then-not-is-fit : goal.returns-then-not-is-fit
-returns-then-not-is-fit g c = search (rules, pass_no)
+pub returns-then-not-is_fit : goal.returns-then-not-is_fit
+returns-then-not-is_fit g c = search (rules, pass_no)
 
 pub returns : goal.returns
 returns g c = search (rules, pass_all)

@@ -7,15 +7,15 @@ returns-in-Filled-default c = settled_filled c.args.order c.args.left c.args.sta
 
 pub returns-in-Nobody-true : goal.returns-in-Nobody-true
 returns-in-Nobody-true c =
-    let j = c.join-order in
+    let j = c.join_order in
     settled_joined c.args.order c.args.left c.args.state.now c.args.buys.now c.args.sells.now c.args.report.now j.new.state j.new.buys j.new.sells (search rules) (j.ensures c.args.report.now c.args.left.at) (search rules)
 
 pub returns-in-Collared-true : goal.returns-in-Collared-true
 returns-in-Collared-true c =
-    let j = c.join-order-in-Collared-true in
+    let j = c.join_order-in-Collared-true in
     settled_called c.args.order c.args.left c.args.state.now c.args.buys.now c.args.sells.now c.args.report.now j.new.state j.new.buys j.new.sells (search rules) (j.ensures c.args.report.now c.args.left.at) (search rules)
 
-pub returns-in-default-false : goal.returns-in-default-false
-returns-in-default-false c =
-    let w = c.write-lapse in
+pub returns-in_default-false : goal.returns-in_default-false
+returns-in_default-false c =
+    let w = c.write_lapse in
     settled_lapsed c.args.order c.args.left c.args.state.now c.args.buys.now c.args.sells.now c.args.report.now w.new.report w.result (search rules) (search rules) (search rules) w.ensures.line w.ensures.next

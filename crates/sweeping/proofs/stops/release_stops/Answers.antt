@@ -9,7 +9,7 @@ releases-smaller g c =
     let allows = g.C.Collar.allows c.args.collar.now in
     let n = capacity (desk_of c.args.state.now c.args.buys.now c.args.sells.now c.args.stops.now) in
     let l = c.releases in
-    let r = c.release-at-at in
+    let r = c.release_at-at in
     let due = c.in-Some.ensures in
     stops_fall some_grid allows n (desk_of l.state l.buys l.sells l.stops) (desk_of r.new.state r.new.buys r.new.sells r.new.stops) l.report r.new.report l.at r.result c.in-Some.i l.invariant.0 due.0 due.1 r.ensures
 
@@ -18,7 +18,7 @@ releases-preserved g c =
     let allows = g.C.Collar.allows c.args.collar.now in
     let n = capacity (desk_of c.args.state.now c.args.buys.now c.args.sells.now c.args.stops.now) in
     let l = c.releases in
-    let r = c.release-at-at in
+    let r = c.release_at-at in
     let due = c.in-Some.ensures in
     let d = desk_of l.state l.buys l.sells l.stops in
     let d' = desk_of r.new.state r.new.buys r.new.sells r.new.stops in (
@@ -32,4 +32,4 @@ returns g c =
     let n = capacity (desk_of c.args.state.now c.args.buys.now c.args.sells.now c.args.stops.now) in
     let l = c.releases in
     let d = desk_of l.state l.buys l.sells l.stops in
-    λ grid. l.invariant.1 grid d l.report l.at (came_to_rest (record { grid = grid; allows = allows }) n d l.report l.at (ready_fits n d _ _ 0 l.invariant.0) c.in-default.ensures)
+    λ grid. l.invariant.1 grid d l.report l.at (came_to_rest (record { grid = grid; allows = allows }) n d l.report l.at (ready_fits n d _ _ 0 l.invariant.0) c.in_default.ensures)

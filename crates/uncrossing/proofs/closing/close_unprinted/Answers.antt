@@ -9,8 +9,8 @@ pub returns : goal.returns
 returns c =
     let s = c.args.state.now in
     let d = desk_of s c.args.buys.now c.args.sells.now c.args.stops.now in
-    let d' = desk_of c.close-rest.new.state c.args.buys.now c.args.sells.now c.args.stops.now in
-    let e = c.close-rest.ensures in
+    let d' = desk_of c.close_rest.new.state c.args.buys.now c.args.sells.now c.args.stops.now in
+    let e = c.close_rest.ensures in
     record {
       came = λ n. came_on {d' = d'} emptied all_lapses n [] (book_whole d) (sym (written_none c.args.report.now 0)) refl (tables_same n s s _ _ _) e.within (e.came n);
       within = e.within;

@@ -6,12 +6,12 @@ use Rattle.uncrossing.proofs.closing.print_and_close.Goals as goal
 
 pub returns : goal.returns
 returns c =
-    let m = c.print-price-met in
+    let m = c.print_price-met in
     let printed = m.ensures in
-    let e = c.close-rest.ensures in
+    let e = c.close_rest.ensures in
     let s = c.args.state.now in
     let stops = c.args.stops.now in
-    let d' = desk_of c.close-rest.new.state m.new.buys m.new.sells stops in
+    let d' = desk_of c.close_rest.new.state m.new.buys m.new.sells stops in
     let trades = (pairs c.args.price (take s.buys c.args.buys.now) (take s.sells c.args.sells.now)).trades in
     record {
       came = λ n ready.

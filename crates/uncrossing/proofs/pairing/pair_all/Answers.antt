@@ -16,9 +16,9 @@ trades-preserved c =
     let lm : m ≤ length l.sells = omega arith in
     let met = sym c.trades-test.ensures in
     let lt = both_left p l.buys l.sells l.i n l.j m ln lm met in
-    let q = c.smaller-open-quantity.ensures in
-    let x = c.take-off-i.ensures in
-    let y = c.take-off-j.ensures in
+    let q = c.smaller_open-quantity.ensures in
+    let x = c.take_off-i.ensures in
+    let y = c.take_off-j.ensures in
     let b = buys_off p n m ln lm met q x y in
     let s = sells_off p n m ln lm met q x y in (
       turn p n m ln lm met q x y l.report l.at ∙ inv.0,
@@ -28,8 +28,8 @@ trades-preserved c =
       omega (arith, fewer p n m ln lm met q x y, inv.4),
       b.beyond ∙ inv.5,
       s.beyond ∙ inv.6,
-      c.take-off-i.auto.orders ∙ inv.7,
-      c.take-off-j.auto.orders ∙ inv.8,
+      c.take_off-i.auto.orders ∙ inv.7,
+      c.take_off-j.auto.orders ∙ inv.8,
       length-set _ _ _ ∙ inv.9,
     )
 
