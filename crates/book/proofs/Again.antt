@@ -1,15 +1,15 @@
 -- An order that enters again.
-use Rattle.std.proofs.Common.{◌≡◌, ℕ, ◌+◌, ◌<◌, ◌≤◌, List, [], ◌∷◌, length, set, sym, ap, ◌∙◌, subst, arith, length-set, length-take}
+use Rattle.std.proofs.Common.{◌≡◌, ℕ, ◌+◌, ◌≤◌, List, [], ◌∷◌, length, set, ap, ◌∙◌, subst, arith, length-take}
 use Rattle.rules.specs.declared.order.Order.{Order}
 use Rattle.trading.specs.declared.report.ReportLine.{ReportLine}
 use Rattle.trading.specs.declared.report.ReportLine.TheVariants.{Lapse}
 use Rattle.trading.specs.Books.{Venue, Book, held, blank_stop}
-use Rattle.trading.specs.Sweeps.{Moved, moved}
-use Rattle.trading.specs.Calls.{place, quantity_at, taken_out, renewed, enters_as, enters_again}
+use Rattle.trading.specs.Sweeps.{moved}
+use Rattle.trading.specs.Calls.{place, quantity_at, taken_out, renewed, enters_as}
 use Rattle.trading.specs.Desks.{Desk, book_of, capacity}
-use Rattle.trading.specs.Moves.{written_at, counted, Ready, Beyond, Came}
+use Rattle.trading.specs.Moves.{written_at, Ready, Came}
 use Rattle.sessions.proofs.Balance.{count_length, size_held, enters_balanced}
-use Rattle.sweeping.proofs.Following.{written_one, held_counted, came_after, ready_later, same_capacity}
+use Rattle.sweeping.proofs.Following.{written_one, came_after, ready_later, same_capacity}
 use Rattle.book.specs.declared.finding.Spot.{Spot}
 use Rattle.book.specs.declared.finding.Spot.TheVariants.{Buys, Sells, Stops}
 use Rattle.book.specs.declared.amendment.Standing.{Standing}

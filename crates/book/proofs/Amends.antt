@@ -1,8 +1,7 @@
 -- Which check refuses an amendment.
-use Rattle.std.proofs.Common.{◌≡◌, ℕ, ◌<◌, Bool, true, false, not, eqb, length, get_or, take, Some, None, sym, refl, ap, ◌∙◌, arith}
+use Rattle.std.proofs.Common.{◌≡◌, ℕ, ◌<◌, true, false, eqb, get_or, Some, None, ap, ◌∙◌, arith}
 use mathlib.Core.Bool.{beq}
 use Rattle.std.proofs.lemmas.List.{get_or-take}
-use Rattle.rules.specs.declared.order.Order.{Order}
 use Rattle.trading.specs.declared.fault.BookFault.TheVariants.{Unpaired, LimitUnlawful}
 use Rattle.trading.specs.Books.{Book, Venue, is_ended, blank_order, blank_stop}
 use Rattle.trading.specs.Ranges.{is_number, is_quantity}

@@ -1,5 +1,5 @@
 -- Cancelling: which check refuses, and what comes about.
-use Rattle.std.proofs.Common.{◌≡◌, ℕ, ◌<◌, true, false, not, List, [], ◌∷◌, length, set, Some, None, sym, refl, ap, ◌∙◌, arith}
+use Rattle.std.proofs.Common.{◌≡◌, ℕ, ◌<◌, true, false, List, [], ◌∷◌, length, set, Some, None, refl, ap, ◌∙◌, arith}
 use Rattle.trading.specs.declared.answer.Outcome.TheVariants.{Accepted}
 use Rattle.trading.specs.declared.fault.BookFault.TheVariants.{WrongPhase, NumberOutOfRange, NumberNotLive}
 use Rattle.trading.specs.declared.report.ReportLine.{ReportLine}

@@ -1,5 +1,5 @@
 -- An uncrossing has come about.
-use Rattle.std.proofs.Common.{◌≡◌, ℕ, ◌≤◌, Bool, true, List, length, None, sym, ap, ◌∙◌, subst, arith}
+use Rattle.std.proofs.Common.{◌≡◌, ℕ, Bool, List, length, sym, ap, ◌∙◌, subst, arith}
 use Rattle.rules.specs.declared.opening.Opening.{Opening}
 use Rattle.rules.specs.Candidates.{grid_of}
 use Rattle.rules.specs.Openings.{opening}
@@ -7,7 +7,7 @@ use Rattle.trading.specs.declared.answer.Outcome.TheVariants.{Uncrossed}
 use Rattle.trading.specs.declared.report.ReportLine.{ReportLine}
 use Rattle.trading.specs.declared.request.Next.{Next}
 use Rattle.trading.specs.declared.request.Request.TheVariants.{Uncross}
-use Rattle.trading.specs.Books.{Venue, Book, venue_of, auction_of}
+use Rattle.trading.specs.Books.{Venue, venue_of, auction_of}
 use Rattle.trading.specs.Calls.{effect_of}
 use Rattle.trading.specs.Uncrossings.{uncrossed_as}
 use Rattle.trading.specs.Desks.{Desk, book_of, capacity}

@@ -1,12 +1,12 @@
 -- An order cut where it stands.
-use Rattle.std.proofs.Common.{◌≡◌, ℕ, ◌+◌, ◌-◌, ◌<◌, ◌≤◌, List, length, get_or, take, drop, set, sym, refl, ap, ◌∙◌, subst, arith, length-set, length-take, drop-set-lt}
+use Rattle.std.proofs.Common.{◌≡◌, ℕ, ◌+◌, ◌-◌, ◌<◌, ◌≤◌, List, length, get_or, set, sym, refl, ap, ◌∙◌, arith, length-set, length-take, drop-set-lt}
 use lib.Seq.{take-set-lt}
 use Rattle.std.proofs.lemmas.List.{length-take-le}
 use Rattle.rules.specs.declared.order.Order.{Order}
 use Rattle.trading.specs.declared.report.ReportLine.{ReportLine}
 use Rattle.trading.specs.declared.state.State.{State}
 use Rattle.trading.specs.declared.stop.StopOrder.{StopOrder}
-use Rattle.trading.specs.Books.{Book, with_orders, reduced, blank_order, blank_stop}
+use Rattle.trading.specs.Books.{with_orders, reduced, blank_order, blank_stop}
 use Rattle.trading.specs.Calls.{Place, nowhere, in_buys, in_sells, in_stops, place, cut, cut_by, reduced_by, lapse_above0}
 use Rattle.trading.specs.Desks.{Desk, desk_of, book_of, capacity}
 use Rattle.trading.specs.Moves.{written_at, Came}

@@ -1,5 +1,5 @@
 -- A ticket has entered.
-use Rattle.std.proofs.Common.{◌≡◌, ℕ, ◌+◌, ◌<◌, ◌≤◌, Bool, true, false, cond, not, ◌&&◌, List, [], length, take, drop, None, sym, refl, ap, ◌∙◌, subst, arith}
+use Rattle.std.proofs.Common.{◌≡◌, ℕ, ◌+◌, ◌≤◌, Bool, true, false, cond, not, ◌&&◌, List, [], length, take, drop, None, sym, refl, ap, subst, arith}
 use Rattle.rules.specs.declared.order.Order.{Order}
 use Rattle.trading.specs.declared.report.ReportLine.{ReportLine}
 use Rattle.trading.specs.declared.state.State.{State}

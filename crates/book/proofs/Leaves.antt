@@ -5,11 +5,10 @@ use Rattle.std.proofs.lemmas.List.{drop-drop, get_or-take}
 use Rattle.rules.specs.declared.order.Order.{Order}
 use Rattle.trading.specs.declared.stop.StopOrder.{StopOrder}
 use Rattle.trading.specs.declared.state.State.{State}
-use Rattle.trading.specs.Books.{Book}
-use Rattle.trading.specs.Calls.{place, taken_out, quantity_at, in_buys, in_sells, in_stops}
+use Rattle.trading.specs.Calls.{taken_out, quantity_at}
 use Rattle.trading.specs.Desks.{Desk, desk_of, book_of, capacity}
 use Rattle.book.specs.declared.finding.Spot.TheVariants.{Buys, Sells, Stops}
-use Rattle.book.specs.Out.{Fit, Out, OutOf}
+use Rattle.book.specs.Out.{Fit, OutOf}
 
 -- what lies past a place lies past a later one
 pub past_later : {X : Type 0} (xs ys : List X) (m n : ℕ) → m ≤ n → drop m xs ≡ drop m ys → drop n xs ≡ drop n ys

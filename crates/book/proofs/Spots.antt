@@ -4,7 +4,7 @@ use Rattle.rules.specs.declared.order.Order.{Order}
 use Rattle.trading.specs.declared.stop.StopOrder.{StopOrder}
 use Rattle.trading.specs.Queues.{first_that}
 use Rattle.trading.specs.Books.{Book}
-use Rattle.trading.specs.Calls.{numbered, stop_numbered, place, place_of, nowhere, in_buys, in_sells, in_stops}
+use Rattle.trading.specs.Calls.{numbered, stop_numbered, place, place_of, nowhere}
 use Rattle.queue.specs.Places.{FirstAt}
 use Rattle.book.specs.declared.finding.Spot.TheVariants.{Buys, Sells, Stops}
 use Rattle.book.specs.Finding.{AtSpot}

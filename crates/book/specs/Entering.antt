@@ -1,12 +1,11 @@
 -- The checks of an entry that look at the queues, and what an entry comes to.
-use Rattle.std.specs.Prelude.{ℕ, Bool, true, ◌&&◌, List, [], ◌∷◌, nat_le}
+use Rattle.std.specs.Prelude.{ℕ, ◌&&◌, List, [], ◌∷◌, nat_le}
 use Rattle.rules.specs.declared.order.Order.{Order}
 use Rattle.trading.specs.declared.report.ReportLine.{ReportLine}
 use Rattle.trading.specs.declared.state.State.{State}
 use Rattle.trading.specs.declared.stop.StopOrder.{StopOrder}
 use Rattle.trading.specs.Desks.{desk_of, book_of}
 use Rattle.trading.specs.Moves.{Ready, Came}
-use Rattle.rules.specs.Candidates.{Grid}
 use Rattle.trading.specs.declared.ticket.Ticket.{Ticket}
 use Rattle.trading.specs.declared.fault.BookFault.TheVariants.{NumberLive, BookFull, StopReached, NoFirstTrade}
 use Rattle.trading.specs.Books.{Venue, Book, held, is_ioc}

@@ -1,5 +1,5 @@
 -- What the first checks come to.
-use Rattle.std.proofs.Common.{◌≡◌, ℕ, ◌+◌, ◌<◌, ◌≤◌, true, false, length}
+use Rattle.std.proofs.Common.{◌≡◌, ℕ, ◌+◌, ◌<◌, ◌≤◌, true, false}
 use Rattle.std.proofs.lemmas.Bool.{lt-ltb, le-ltb, leb-true, and_parts}
 use Rattle.trading.specs.declared.fault.BookFault.TheVariants.{ReportTooShort, NotWellFormed}
 use Rattle.trading.specs.Desks.{Desk, book_of, capacity, well_formed, counts_fit, queues_fit}

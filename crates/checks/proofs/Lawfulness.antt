@@ -1,8 +1,8 @@
 -- A limit or a trigger that the grid refuses is not lawful, for the reason that the rules give.
-use Rattle.std.proofs.Common.{◌≡◌, ℕ, Bool, true, false, not, ◌&&◌, eqb, Some, None, Option, ap, subst, inl, inr, arith, MatchOption}
+use Rattle.std.proofs.Common.{◌≡◌, ℕ, Bool, true, false, not, Some, None, ap, subst, inl, inr, MatchOption}
 use Rattle.std.proofs.lemmas.Bool.{cases_Bool, and_from, ne_eqb, cond-false}
 use Rattle.grid.specs.Prices.{top_price}
-use Rattle.grid.specs.Neighbours.{Priced, Unlawful, Lawful, fault_at, fault_by, next_above, next_below}
+use Rattle.grid.specs.Neighbours.{Priced, Unlawful, Lawful}
 use Rattle.grid.specs.declared.GridFault.{GridFault}
 use Rattle.grid.proofs.Searches.{fault_finds, fault_one, unlawful_not}
 use Rattle.trading.specs.Calls.{unlawful, why_unlawful}

@@ -1,6 +1,6 @@
 -- The limits of a list of orders are tried one after another; in the end the best lawful price is found.
 use Rattle.std.proofs.Common.{◌≡◌, ℕ, ◌+◌, ◌<◌, Bool, ◌⊎◌, List, length, get_or, take, Some, None, Option, sym, ap, ◌∙◌, subst, inl, inr, arith}
-use Rattle.std.specs.List.{AllByRecursion as All}
+use Rattle.std.specs.List.{AllByRecursion}
 use Rattle.std.proofs.ByRecursion.{All-weaker, All-more}
 use Rattle.grid.specs.Neighbours.{Lawful, Priced, NextAbove, NextBelow}
 use Rattle.rules.specs.declared.order.Order.{Order}
@@ -15,7 +15,7 @@ use Rattle.pricing.proofs.Blank.{blank}
 use Rattle.pricing.proofs.Trying.{as_good}
 
 module _ (lawful : ℕ → Bool) (a : Auction) where
-  limits_kept : (old new : Option Score) (os : List Order) → ((c : ℕ) → Covers lawful a old c → Covers lawful a new c) → All (LimitTried lawful a old) os → All (LimitTried lawful a new) os
+  limits_kept : (old new : Option Score) (os : List Order) → ((c : ℕ) → Covers lawful a old c → Covers lawful a new c) → AllByRecursion (LimitTried lawful a old) os → AllByRecursion (LimitTried lawful a new) os
   limits_kept old new os keeps = All-weaker (LimitTried lawful a old) (LimitTried lawful a new) (λ o d h c b. keeps c (d h c b)) os
 
   module _ (old r : Option Score) (t : ℕ) (os : List Order) (i : ℕ) (within : i < length os) (s : SoFar lawful a old r t (take i os)) where
@@ -50,7 +50,7 @@ module _ (lawful : ℕ → Bool) (a : Auction) where
 
   -- what the best found covers at and beside every anchor
   anchored : (t : Topped (grid_of lawful)) (Q : ℕ → Type 0) (r : Option Score) → ((c : ℕ) → Covers lawful a r c → Lawful lawful c → Q c)
-      → AroundTried lawful a r a.last → All (LimitTried lawful a r) a.buys → All (LimitTried lawful a r) a.sells
+      → AroundTried lawful a r a.last → AllByRecursion (LimitTried lawful a r) a.buys → AllByRecursion (LimitTried lawful a r) a.sells
       → Anchors (Around Q lawful (up (grid_of lawful)) (down (grid_of lawful))) a
   anchored t Q r f l bs ss =
       let P = Around Q lawful (up (grid_of lawful)) (down (grid_of lawful)) in
@@ -61,7 +61,7 @@ module _ (lawful : ℕ → Bool) (a : Auction) where
         at_sells = All-weaker (LimitTried lawful a r) (AtLimit P) carry a.sells ss;
       }
 
-  best_of_covered : (t : Topped (grid_of lawful)) (r : Option Score) → Found lawful a r → AroundTried lawful a r a.last → All (LimitTried lawful a r) a.buys → All (LimitTried lawful a r) a.sells
+  best_of_covered : (t : Topped (grid_of lawful)) (r : Option Score) → Found lawful a r → AroundTried lawful a r a.last → AllByRecursion (LimitTried lawful a r) a.buys → AllByRecursion (LimitTried lawful a r) a.sells
       → r ≡ scored a (best (grid_of lawful) a)
   best_of_covered t None f l bs ss =
       let none : BestOrNone lawful a None = λ q lq.

@@ -1,6 +1,6 @@
 -- Prices are tried one after another: the best found so far covers all that were tried.
 use Rattle.std.specs.Prelude.{◌≡◌, ℕ, ◌<◌, min, Bool, cond, ◌⊎◌, List, IfSome, Some, None, Option, MatchOption, ◌==◌}
-use Rattle.std.specs.List.{AllByRecursion as All}
+use Rattle.std.specs.List.{AllByRecursion}
 use Rattle.grid.specs.Neighbours.{Lawful, NextAbove, NextBelow}
 use Rattle.rules.specs.declared.order.Order.{Order}
 use Rattle.rules.specs.declared.opening.Score.{Score}
@@ -64,7 +64,7 @@ LimitTried lawful a r o = 0 < o.limit → AroundTried lawful a r o.limit
 pub record LimitsTried (lawful : ℕ → Bool) (a : Auction) (old new : Option Score) (orders : List Order) : Type 0 where
   pub found : Found lawful a new
   pub keeps : (c : ℕ) → Covers lawful a old c → Covers lawful a new c
-  pub limits : All (LimitTried lawful a new) orders
+  pub limits : AllByRecursion (LimitTried lawful a new) orders
 
 -- midway in a list of orders: the limits so far are covered, and what is at and beside the limit tried last
 pub record SoFar (lawful : ℕ → Bool) (a : Auction) (old new : Option Score) (tried : ℕ) (orders : List Order) : Type 0 where

@@ -1,7 +1,7 @@
 -- Every lawful price is equalled or beaten by a lawful price at or beside the last price or a limit.
 use Rattle.std.proofs.Common.{◌≡◌, ℕ, ◌<◌, ◌≤◌, Bool, ◌⊎◌, List, [], ◌∷◌, Some, None, Option, sym, refl, inl, inr, arith}
 use native.Mathlib.Decide.{dec_lt, dec_le}
-use Rattle.std.specs.List.{AllByRecursion as All}
+use Rattle.std.specs.List.{AllByRecursion}
 use Rattle.std.proofs.ByRecursion.{All-weaker}
 use Rattle.std.proofs.lemmas.Bool.Decides.{nat_tests}
 use Rattle.grid.specs.Neighbours.{Lawful, NextAbove, NextBelow}
@@ -35,8 +35,8 @@ AtLimit P o = 0 < o.limit → P o.limit
 -- P of the last price and of every limit
 pub record Anchors (P : ℕ → Type 0) (a : Auction) : Type 0 where
   pub at_last : P a.last
-  pub at_buys : All (AtLimit P) a.buys
-  pub at_sells : All (AtLimit P) a.sells
+  pub at_buys : AllByRecursion (AtLimit P) a.buys
+  pub at_sells : AllByRecursion (AtLimit P) a.sells
 
 -- ---- where no limit lies between two prices, their totals are equal
 
@@ -50,18 +50,18 @@ bought_same low high o h k = grind (arith, nat_tests)
 sold_same : (low high : ℕ) (o : Order) → low ≤ high → Outside low high o → sold_at low o ≡ sold_at high o
 sold_same low high o h k = grind (arith, nat_tests)
 
-total_same : {X : Type 0} (f g : X → ℕ) (xs : List X) → All (λ x. f x ≡ g x) xs → total f xs ≡ total g xs
+total_same : {X : Type 0} (f g : X → ℕ) (xs : List X) → AllByRecursion (λ x. f x ≡ g x) xs → total f xs ≡ total g xs
 total_same f g [] h = refl
 total_same f g (x ∷ xs) h = omega (arith, h.0, total_same f g xs h.1)
 
 module _ (a : Auction) (low high : ℕ) (le : low ≤ high) where
-  buys_same : All (Outside low high) a.buys → buy_total a.buys low ≡ buy_total a.buys high
+  buys_same : AllByRecursion (Outside low high) a.buys → buy_total a.buys low ≡ buy_total a.buys high
   unfolding buy_total
   buys_same h =
       total_same (bought_at low) (bought_at high) a.buys
       (All-weaker (Outside low high) (λ o. bought_at low o ≡ bought_at high o) (λ o k. bought_same low high o le k) a.buys h)
 
-  sells_same : All (Outside low high) a.sells → sell_total a.sells low ≡ sell_total a.sells high
+  sells_same : AllByRecursion (Outside low high) a.sells → sell_total a.sells low ≡ sell_total a.sells high
   unfolding sell_total
   sells_same h =
       total_same (sold_at low) (sold_at high) a.sells
@@ -82,12 +82,12 @@ record NearestAbove (P : ℕ → Type 0) (q top : ℕ) (os : List Order) : Type 
   pub holds : P at
   pub low : q ≤ at
   pub high : at ≤ top
-  pub clear : All (FromTo q at) os
+  pub clear : AllByRecursion (FromTo q at) os
 
-from_to_less : (q x y : ℕ) (os : List Order) → y ≤ x → All (FromTo q x) os → All (FromTo q y) os
+from_to_less : (q x y : ℕ) (os : List Order) → y ≤ x → AllByRecursion (FromTo q x) os → AllByRecursion (FromTo q y) os
 from_to_less q x y os h = All-weaker (FromTo q x) (FromTo q y) (λ o k l m. omega (arith, k l m)) os
 
-nearest_above : (P : ℕ → Type 0) (q top : ℕ) (os : List Order) → P top → q ≤ top → All (AtLimit P) os → NearestAbove P q top os
+nearest_above : (P : ℕ → Type 0) (q top : ℕ) (os : List Order) → P top → q ≤ top → AllByRecursion (AtLimit P) os → NearestAbove P q top os
 nearest_above P q top [] pt h ps = record { at = top; holds = pt; low = h; high = omega arith; clear = tt }
 nearest_above P q top (o ∷ os) pt h ps = pick (nearest_above P q top os pt h ps.1)
   where
@@ -117,12 +117,12 @@ record NearestBelow (P : ℕ → Type 0) (q bottom : ℕ) (os : List Order) : Ty
   pub holds : P at
   pub low : bottom ≤ at
   pub high : at ≤ q
-  pub clear : All (DownTo q at) os
+  pub clear : AllByRecursion (DownTo q at) os
 
-down_to_less : (q x y : ℕ) (os : List Order) → x ≤ y → All (DownTo q x) os → All (DownTo q y) os
+down_to_less : (q x y : ℕ) (os : List Order) → x ≤ y → AllByRecursion (DownTo q x) os → AllByRecursion (DownTo q y) os
 down_to_less q x y os h = All-weaker (DownTo q x) (DownTo q y) (λ o k l. omega (arith, k l)) os
 
-nearest_below : (P : ℕ → Type 0) (q bottom : ℕ) (os : List Order) → P bottom → bottom ≤ q → All (AtLimit P) os → NearestBelow P q bottom os
+nearest_below : (P : ℕ → Type 0) (q bottom : ℕ) (os : List Order) → P bottom → bottom ≤ q → AllByRecursion (AtLimit P) os → NearestBelow P q bottom os
 nearest_below P q bottom [] pb h ps = record { at = bottom; holds = pb; low = omega arith; high = h; clear = tt }
 nearest_below P q bottom (o ∷ os) pb h ps = pick (nearest_below P q bottom os pb h ps.1)
   where
@@ -159,10 +159,10 @@ module _ {lawful : ℕ → Bool} {up down : ℕ → Option ℕ} (laws : Neighbou
       let n = nearest_above P q m.at a.sells m.holds m.low anchors.at_sells in
       from n.at n.holds n.low (omega (arith, n.high, m.high)) (from_to_less q m.at n.at a.buys n.high m.clear) n.clear
     where
-      from : (x : ℕ) → P x → q ≤ x → x ≤ a.last → All (FromTo q x) a.buys → All (FromTo q x) a.sells → Reached lawful up down P a q
+      from : (x : ℕ) → P x → q ≤ x → x ≤ a.last → AllByRecursion (FromTo q x) a.buys → AllByRecursion (FromTo q x) a.sells → Reached lawful up down P a q
       from x px low high k l = elim (dec_lt q x) [ no z ↦ itself x px (omega arith) | yes z ↦ beside z (down x) refl (laws.downs x) ]
         where
-          outside : (c : ℕ) → c < x → (os : List Order) → All (FromTo q x) os → All (Outside q c) os
+          outside : (c : ℕ) → c < x → (os : List Order) → AllByRecursion (FromTo q x) os → AllByRecursion (Outside q c) os
           outside c lt os = All-weaker (FromTo q x) (Outside q c) (λ o f y z. omega (arith, f y z)) os
 
           beside : q < x → (r : Option ℕ) → down x ≡ r → NextBelow lawful x r → Reached lawful up down P a q
@@ -185,10 +185,10 @@ module _ {lawful : ℕ → Bool} {up down : ℕ → Option ℕ} (laws : Neighbou
       let n = nearest_below P q m.at a.sells m.holds m.high anchors.at_sells in
       from n.at n.holds (omega (arith, n.low, m.low)) n.high (down_to_less q m.at n.at a.buys n.low m.clear) n.clear
     where
-      from : (x : ℕ) → P x → a.last ≤ x → x ≤ q → All (DownTo q x) a.buys → All (DownTo q x) a.sells → Reached lawful up down P a q
+      from : (x : ℕ) → P x → a.last ≤ x → x ≤ q → AllByRecursion (DownTo q x) a.buys → AllByRecursion (DownTo q x) a.sells → Reached lawful up down P a q
       from x px low high k l = elim (dec_lt x q) [ no z ↦ itself x px (omega arith) | yes z ↦ beside z (up x) refl (laws.ups x) ]
         where
-          outside : (c : ℕ) → x < c → (os : List Order) → All (DownTo q x) os → All (Outside c q) os
+          outside : (c : ℕ) → x < c → (os : List Order) → AllByRecursion (DownTo q x) os → AllByRecursion (Outside c q) os
           outside c lt os = All-weaker (DownTo q x) (Outside c q) (λ o f y z. elim (dec_le o.limit q) [ yes w ↦ absurd (omega (arith, f w)) | no w ↦ omega arith ]) os
 
           beside : x < q → (r : Option ℕ) → up x ≡ r → NextAbove lawful x r → Reached lawful up down P a q

@@ -1,6 +1,6 @@
 -- Openings and edges to check by hand, computed on the rules.
 use Rattle.std.specs.Prelude.{◌≡◌, ℕ, Bool, true, false, List, [], ◌∷◌, Some, None, Option}
-use Rattle.std.specs.List.{AllByRecursion as All}
+use Rattle.std.specs.List.{AllByRecursion}
 use Rattle.grid.specs.Neighbours.{fault_at}
 use Rattle.grid.specs.Steps.{on_steps}
 use Rattle.ticks.specs.Rows.{on_rows}
@@ -88,4 +88,4 @@ Right r = answer_to r.asked ≡ r.answered
 
 -- every row is right
 abbrev pub RowsRight : Type 0
-RowsRight = All Right rows
+RowsRight = AllByRecursion Right rows

@@ -1,6 +1,6 @@
 -- Continuous trading keeps a book sound: sweeps, and the release of stops.
 use Rattle.std.proofs.Common.{◌≡◌, ℕ, zero, suc, ◌+◌, ◌-◌, ◌<◌, ◌≤◌, min, max, Bool, true, false, cond, eqb, leb, List, [], ◌∷◌, length, Some, None, Option, sym, refl, ap, ◌∙◌, subst, inl, inr, arith}
-use Rattle.std.specs.List.{AllByRecursion as All}
+use Rattle.std.specs.List.{AllByRecursion}
 use Rattle.std.proofs.ByRecursion.{All-weaker, All-append}
 use Rattle.std.proofs.lemmas.Bool.{cases_Bool, both_ways, eqb-true, eq-eqb, leb-false, and_parts, true≢false}
 use Rattle.std.proofs.lemmas.Bool.Decides.{nat_tests}
@@ -28,7 +28,7 @@ use Rattle.sessions.proofs.Standing.{named, stop_named, count, Unique, Two, Good
 use Rattle.sessions.proofs.Parts.{Like, Part, empty, skip, like, part_same, part_all, part_sorted, good_like, part_swept}
 use Rattle.sessions.proofs.Finding.{only_if_some}
 
-pub all_both : {X : Type 0} (P Q R : X → Type 0) → ((x : X) → P x → Q x → R x) → (xs : List X) → All P xs → All Q xs → All R xs
+pub all_both : {X : Type 0} (P Q R : X → Type 0) → ((x : X) → P x → Q x → R x) → (xs : List X) → AllByRecursion P xs → AllByRecursion Q xs → AllByRecursion R xs
 all_both P Q R f [] a b = tt
 all_both P Q R f (x ∷ xs) a b = (f x a.0 b.0, all_both P Q R f xs a.1 b.1)
 
@@ -57,8 +57,8 @@ two_of Sell n o p q h = λ e. h (sym e)
 not_itself : (t o : Order) (os : List Order) → named t.number o + total (named t.number) os ≡ 0 → t.number ≡ o.number → ⊥
 not_itself t o os h e = omega (arith, one_itself o.number, ap (λ k. named k o) e)
 
-sweep_two : (allows : ℕ → ℕ → Bool) (t : Order) (rest last : ℕ) (os : List Order) → total (named t.number) os ≡ 0 → All Two (sweep allows t rest last os).trades
-sweep_two allows t = sweep_by allows t (λ rest last os s. total (named t.number) os ≡ 0 → All Two s.trades)
+sweep_two : (allows : ℕ → ℕ → Bool) (t : Order) (rest last : ℕ) (os : List Order) → total (named t.number) os ≡ 0 → AllByRecursion Two (sweep allows t rest last os).trades
+sweep_two allows t = sweep_by allows t (λ rest last os s. total (named t.number) os ≡ 0 → AllByRecursion Two s.trades)
     (λ last os h. tt) (λ rest last z h. tt) (λ rest last o os z d w h. tt) (λ rest last o os z d f h. tt)
     (λ rest last o os s d i h. i (omega arith))
     (λ rest last o os s d w f l i h. (two_of t.side t.number o.number o.limit _ (not_itself t o os h), i (omega arith)))
@@ -92,8 +92,8 @@ module _ (v : Venue) where
   beyond_behind Buy l o p g d w k n e = buy_beyond l o.limit p.limit (good_limited Sell o g d) (good_limited Sell p k e) (limits_of Sell Sell o p k.on_side g.on_side n) w
   beyond_behind Sell l o p g d w k n e = sell_beyond l o.limit p.limit (good_limited Buy o g d) (good_limited Buy p k e) (limits_of Buy Buy o p k.on_side g.on_side n) w
 
-  sweep_beyond : (allows : ℕ → ℕ → Bool) (t : Order) (rest last : ℕ) (os : List Order) → All (Good v (other_side t.side)) os → Sorted order_ahead os → (sweep allows t rest last os).ending ≡ Nobody → All (Beyond t.side t.limit) (sweep allows t rest last os).queue
-  sweep_beyond allows t = sweep_by allows t (λ rest last os s. All (Good v (other_side t.side)) os → Sorted order_ahead os → s.ending ≡ Nobody → All (Beyond t.side t.limit) s.queue)
+  sweep_beyond : (allows : ℕ → ℕ → Bool) (t : Order) (rest last : ℕ) (os : List Order) → AllByRecursion (Good v (other_side t.side)) os → Sorted order_ahead os → (sweep allows t rest last os).ending ≡ Nobody → AllByRecursion (Beyond t.side t.limit) (sweep allows t rest last os).queue
+  sweep_beyond allows t = sweep_by allows t (λ rest last os s. AllByRecursion (Good v (other_side t.side)) os → Sorted order_ahead os → s.ending ≡ Nobody → AllByRecursion (Beyond t.side t.limit) s.queue)
       (λ last os a b e. absurd (let z : ◌≡◌ {A = ℕ} 0 1 = cc in omega arith))
       (λ rest last z a b e. tt)
       (λ rest last o os z d w a b e. (λ _. w, all_both (Good v (other_side t.side)) (λ p. order_ahead p o ≡ false) (Beyond t.side t.limit) (λ p g n. beyond_behind t.side t.limit o p a.0 d w g n) os a.1 b.0))
@@ -103,8 +103,8 @@ module _ (v : Venue) where
       (λ rest last o os z d w f l a b e. absurd (let z : ◌≡◌ {A = ℕ} 0 1 = cc in omega arith))
 
   -- the last price stays a price
-  sweep_last : (side : Side) (allows : ℕ → ℕ → Bool) (t : Order) (rest last : ℕ) (os : List Order) → All (Good v side) os → is_price last ≡ true → is_price (sweep allows t rest last os).last ≡ true
-  sweep_last side allows t = sweep_by allows t (λ rest last os s. All (Good v side) os → is_price last ≡ true → is_price s.last ≡ true)
+  sweep_last : (side : Side) (allows : ℕ → ℕ → Bool) (t : Order) (rest last : ℕ) (os : List Order) → AllByRecursion (Good v side) os → is_price last ≡ true → is_price (sweep allows t rest last os).last ≡ true
+  sweep_last side allows t = sweep_by allows t (λ rest last os s. AllByRecursion (Good v side) os → is_price last ≡ true → is_price s.last ≡ true)
       (λ last os a p. p) (λ rest last z a p. p) (λ rest last o os z d w a p. p) (λ rest last o os z d f a p. p)
       (λ rest last o os s d h a p. h a.1 p)
       (λ rest last o os s d w f l h a p. h a.1 (day_priced o.limit o.validity a.0.stands d))
@@ -163,7 +163,7 @@ module _ (v : Venue) where
   opposite_sound Buy os l b p h s = parts_sound b b.buys os l (part_same b.buys) p h s
   opposite_sound Sell os l b p h s = parts_sound b os b.sells l p (part_same b.sells) h s
 
-  opposite_good : (side : Side) (b : Book) → Rested v b → All (Good v (other_side side)) (opposite side b)
+  opposite_good : (side : Side) (b : Book) → Rested v b → AllByRecursion (Good v (other_side side)) (opposite side b)
   opposite_good Buy b r = r.sells
   opposite_good Sell b r = r.buys
 
@@ -188,7 +188,7 @@ module _ (v : Venue) where
   joins_unique side o b z u k = omega (arith, joins_count side o b k, room_for o.number (λ k. count k b) u z k)
 
   -- an order that the other side is beyond, or that is no day order, joins apart
-  joins_apart : (side : Side) (o : Order) (b : Book) → (is_day o.validity ≡ true → All (Beyond side o.limit) (opposite side b)) → Apart b.buys b.sells → Apart (joins side o b).buys (joins side o b).sells
+  joins_apart : (side : Side) (o : Order) (b : Book) → (is_day o.validity ≡ true → AllByRecursion (Beyond side o.limit) (opposite side b)) → Apart b.buys b.sells → Apart (joins side o b).buys (joins side o b).sells
   joins_apart Buy o b h a =
       let c = max a.at (suc o.limit) in
       elim (cases_Bool (is_day o.validity)) [
@@ -214,7 +214,7 @@ module _ (v : Venue) where
   joins_phase Buy o b = refl
   joins_phase Sell o b = refl
 
-  pub joins_sound : (o : Order) (b : Book) → Good v o.side o → count o.number b ≡ 0 → (is_continuous b.phase ≡ true → is_day o.validity ≡ true → All (Beyond o.side o.limit) (opposite o.side b)) → Sound v b → Sound v (join o b)
+  pub joins_sound : (o : Order) (b : Book) → Good v o.side o → count o.number b ≡ 0 → (is_continuous b.phase ≡ true → is_day o.validity ≡ true → AllByRecursion (Beyond o.side o.limit) (opposite o.side b)) → Sound v b → Sound v (join o b)
   joins_sound o b g z h s = record {
     rested = joins_rested o.side o b g s.rested;
     unique = joins_unique o.side o b z s.unique;
@@ -247,7 +247,7 @@ module _ (v : Venue) where
   rest_good : (t : Order) (b : Book) (rest : ℕ) → Coming t b → is_day t.validity ≡ true → (0 < rest) × (rest ≤ t.«open») → Good v t.side (with_open t rest)
   rest_good t b rest i d h = record { on_side = refl; number = i.number; quantity = quantity_less rest t.«open» i.quantity h.0 h.1; stands = day_stands t.limit t.validity i.priced d; is_lawful = λ _. i.is_lawful }
 
-  settled_safe : (d : Bool) (t : Order) (b : Book) (rest : ℕ) (e : Ending) → is_day t.validity ≡ d → Coming t b → Remains t.«open» e rest → (e ≡ Nobody → All (Beyond t.side t.limit) (opposite t.side b)) → Sound v b → Safe v (settled d t b rest e)
+  settled_safe : (d : Bool) (t : Order) (b : Book) (rest : ℕ) (e : Ending) → is_day t.validity ≡ d → Coming t b → Remains t.«open» e rest → (e ≡ Nobody → AllByRecursion (Beyond t.side t.limit) (opposite t.side b)) → Sound v b → Safe v (settled d t b rest e)
   settled_safe d t b rest Filled i c r h s = record { sound = s; two = tt }
   settled_safe true t b rest Nobody i c r h s = record { sound = joins_sound (with_open t rest) b (rest_good t b rest c i r) c.new (λ _ _. h refl) s; two = tt }
   settled_safe true t b rest Collared i c r h s = record { sound = call_sound (join (with_open t rest) b) (joins_rested t.side (with_open t rest) b (rest_good t b rest c i r) s.rested) (joins_unique t.side (with_open t rest) b c.new s.unique); two = tt }
@@ -279,7 +279,7 @@ module _ (v : Venue) where
       let rest = settled_safe (is_day t.validity) t b' w.rest w.ending refl
       (record { number = i.number; quantity = i.quantity; priced = i.priced; is_lawful = i.is_lawful; new = omega (arith, i.new, opposite_count t.number t.side w.queue b part) })
       (sweep_remains allows t t.«open» b.last os)
-      (λ e. subst (All (Beyond t.side t.limit)) (sym (opposite_is t.side w.last w.queue b)) (sweep_beyond v allows t t.«open» b.last os good (opposite_sorted t.side b r) e))
+      (λ e. subst (AllByRecursion (Beyond t.side t.limit)) (sym (opposite_is t.side w.last w.queue b)) (sweep_beyond v allows t t.«open» b.last os good (opposite_sorted t.side b r) e))
       (opposite_sound t.side w.queue w.last b part (sweep_last v (other_side t.side) allows t t.«open» b.last os good r.last) s) in
       record {
         sound = rest.sound;
@@ -288,7 +288,7 @@ module _ (v : Venue) where
 
   -- ---- stops
 
-  pub stops_rested : (b : Book) (ss : List StopOrder) → All (GoodStop v) ss → Sorted stop_ahead ss → Rested v b → Rested v (with_stops ss b)
+  pub stops_rested : (b : Book) (ss : List StopOrder) → AllByRecursion (GoodStop v) ss → Sorted stop_ahead ss → Rested v b → Rested v (with_stops ss b)
   stops_rested b ss g o r = record { buys = r.buys; sells = r.sells; stops = g; buys_sorted = r.buys_sorted; sells_sorted = r.sells_sorted; stops_sorted = o; static = r.static; last = r.last }
 
   -- a stop leaves

@@ -1,7 +1,7 @@
 -- After the trades at the winner's price, or where nothing executes, no day orders cross.
 use Rattle.std.proofs.Common.{◌≡◌, ℕ, suc, ◌+◌, ◌<◌, ◌≤◌, min, max, Bool, true, false, ◌||◌, eqb, leb, List, [], ◌∷◌, inl, inr, arith}
 use native.Mathlib.Decide.{dec_lt}
-use Rattle.std.specs.List.{AllByRecursion as All}
+use Rattle.std.specs.List.{AllByRecursion}
 use Rattle.std.proofs.ByRecursion.{All-weaker}
 use Rattle.std.proofs.lemmas.Bool.{cases_Bool, both_ways}
 use Rattle.std.proofs.lemmas.Bool.Decides.{nat_tests}
@@ -32,24 +32,24 @@ buy_behind q a b h k = grind (arith, nat_tests)
 module _ (v : Venue) where
   front : (side : Side) (accepts : Order → Bool) (at : Order → ℕ) → ((o : Order) → accepts o ≡ false → at o ≡ 0)
       → ((o p : Order) → limit_ahead side side p.limit o.limit ≡ false → accepts o ≡ false → accepts p ≡ false)
-      → (os : List Order) → All (Good v side) os → Sorted order_ahead os → Front accepts at os
+      → (os : List Order) → AllByRecursion (Good v side) os → Sorted order_ahead os → Front accepts at os
   front side accepts at nothing behind [] g s = tt
   front side accepts at nothing behind (o ∷ os) g s =
       (λ n. total_zero at accepts nothing os (all_both (Good v side) (λ p. order_ahead p o ≡ false) (λ p. accepts p ≡ false) (λ p k h. behind o p (limits_of side side o p k.on_side g.0.on_side h) n) os g.1 s.0), front side accepts at nothing behind os g.1 s.1)
 
-  front_buys : (q : ℕ) (os : List Order) → All (Good v Buy) os → Sorted order_ahead os → Front (accepts_buying q) (bought_at q) os
+  front_buys : (q : ℕ) (os : List Order) → AllByRecursion (Good v Buy) os → Sorted order_ahead os → Front (accepts_buying q) (bought_at q) os
   front_buys q = front Buy (accepts_buying q) (bought_at q) (buys_no q) (λ o p. buy_behind q o.limit p.limit)
 
-  front_sells : (q : ℕ) (os : List Order) → All (Good v Sell) os → Sorted order_ahead os → Front (accepts_selling q) (sold_at q) os
+  front_sells : (q : ℕ) (os : List Order) → AllByRecursion (Good v Sell) os → Sorted order_ahead os → Front (accepts_selling q) (sold_at q) os
   front_sells q = front Sell (accepts_selling q) (sold_at q) (sells_no q) (λ o p. sell_behind q o.limit p.limit)
 
 -- ---- queues are apart where no two of their day orders cross
 
 -- a day order is below each day order of a queue
 abbrev BelowEach : List Order → Order → Type 0
-BelowEach ss x = is_day x.validity ≡ true → All (λ y. is_day y.validity ≡ true → x.limit < y.limit) ss
+BelowEach ss x = is_day x.validity ≡ true → AllByRecursion (λ y. is_day y.validity ≡ true → x.limit < y.limit) ss
 
-apart_from : (bs ss : List Order) → All (SellsFrom 1) ss → All (BelowEach ss) bs → Apart bs ss
+apart_from : (bs ss : List Order) → AllByRecursion (SellsFrom 1) ss → AllByRecursion (BelowEach ss) bs → Apart bs ss
 apart_from [] ss z a = record { at = 1; buys = tt; sells = z }
 apart_from (x ∷ bs) ss z a =
     let i = apart_from bs ss z a.1 in
@@ -63,7 +63,7 @@ apart_from (x ∷ bs) ss z a =
     ]
 
 -- each record counts in its total
-each_counts : (at : ℕ → Order → ℕ) (xs : List Order) → All (λ x. (q : ℕ) → at q x ≤ total (at q) xs) xs
+each_counts : (at : ℕ → Order → ℕ) (xs : List Order) → AllByRecursion (λ x. (q : ℕ) → at q x ≤ total (at q) xs) xs
 each_counts at [] = tt
 each_counts at (x ∷ xs) = (λ q. omega arith, All-weaker (λ y. (q : ℕ) → at q y ≤ total (at q) xs) (λ y. (q : ℕ) → at q y ≤ at q x + total (at q) xs) (λ y h q. omega (arith, h q)) xs (each_counts at xs))
 
@@ -73,14 +73,14 @@ pub record Known (at : ℕ → Order → ℕ) (v : Venue) (side : Side) (xs : Li
   pub counts : (q : ℕ) → at q x ≤ total (at q) xs
 
 module _ (v : Venue) where
-  known : (at : ℕ → Order → ℕ) (side : Side) (xs : List Order) → All (Good v side) xs → All (Known at v side xs) xs
+  known : (at : ℕ → Order → ℕ) (side : Side) (xs : List Order) → AllByRecursion (Good v side) xs → AllByRecursion (Known at v side xs) xs
   known at side xs g = all_both (Good v side) (λ x. (q : ℕ) → at q x ≤ total (at q) xs) (Known at v side xs) (λ x k c. record { good = k; counts = c }) xs g (each_counts at xs)
 
   good_day : (side : Side) (y : Order) → Good v side y → SellsFrom 1 y
   good_day side y g d = day_limited y.limit y.validity g.stands d
 
   -- where a crossing would be absurd
-  apart_known : (bs ss : List Order) → All (Good v Buy) bs → All (Good v Sell) ss
+  apart_known : (bs ss : List Order) → AllByRecursion (Good v Buy) bs → AllByRecursion (Good v Sell) ss
       → ((x y : Order) → Known bought_at v Buy bs x → Known sold_at v Sell ss y → is_day y.validity ≡ true → y.limit ≤ x.limit → ⊥) → Apart bs ss
   apart_known bs ss gb gs no-cross =
       apart_from bs ss (All-weaker (Good v Sell) (SellsFrom 1) (good_day Sell) ss gs)
@@ -150,7 +150,7 @@ module _ (v : Venue) where
   good_lawful y g d = g.is_lawful (good_day v Sell y g d)
 
   -- after a pairing at a price that no lawful price tops
-  pub paired_apart : (p : ℕ) (bs ss : List Order) → All (Good v Buy) bs → All (Good v Sell) ss → Sorted order_ahead bs → Sorted order_ahead ss
+  pub paired_apart : (p : ℕ) (bs ss : List Order) → AllByRecursion (Good v Buy) bs → AllByRecursion (Good v Sell) ss → Sorted order_ahead bs → Sorted order_ahead ss
       → ((q : ℕ) → Lawful v.grid.lawful q → executes bs ss q ≤ executes bs ss p) → Apart (pairs p bs ss).buys (pairs p bs ss).sells
   paired_apart p bs ss gb gs sb st tops =
       let r = pairs p bs ss in
@@ -159,7 +159,7 @@ module _ (v : Venue) where
       (λ x y k l d h. never_crossed p bs ss (λ q. front_buys v q bs gb sb) (λ q. front_sells v q ss gs st) x y (good_some v Buy x k.good) (good_some v Sell y l.good) k.counts l.counts (tops y.limit (good_lawful y l.good d)) h)
 
   -- where no lawful price executes anything
-  pub unexecuted_apart : (bs ss : List Order) → All (Good v Buy) bs → All (Good v Sell) ss → ((q : ℕ) → Lawful v.grid.lawful q → executes bs ss q ≡ 0) → Apart bs ss
+  pub unexecuted_apart : (bs ss : List Order) → AllByRecursion (Good v Buy) bs → AllByRecursion (Good v Sell) ss → ((q : ℕ) → Lawful v.grid.lawful q → executes bs ss q ≡ 0) → Apart bs ss
   unexecuted_apart bs ss gb gs none =
       apart_known v bs ss gb gs
       (λ x y k l d h.

@@ -1,6 +1,6 @@
 -- The rules check in one order, and leave exactly one answer to each call.
 use Rattle.std.proofs.Common.{◌≡◌, ℕ, ◌+◌, ◌≤◌, false, not, leb, List, [], ◌∷◌, ◌++◌, length, take, drop, Some, None, Ok, Err, Option, Result, sym, refl, ap, ◌∙◌, subst, arith}
-use Rattle.std.specs.List.{AllByRecursion as All}
+use Rattle.std.specs.List.{AllByRecursion}
 use Rattle.std.proofs.lemmas.Bool.{leb-true, leb-false, ltb-false, and_parts, not-false}
 use Rattle.trading.specs.declared.fault.BookFault.{BookFault}
 use Rattle.trading.specs.declared.report.ReportLine.{ReportLine}
@@ -52,7 +52,7 @@ in_parts report front mid later n e =
     ap (λ k. (front ++ (mid ++ later)) ++ drop k report) e ∙ append_assoc front (mid ++ later) (drop n report) ∙ ap (λ l. front ++ l) (append_assoc mid later (drop n report))
 
 -- lapse lines in two orders are as many, so that the same lines of the old report stay behind them
-same_reports : (e : Effect) (report report' report'' : List ReportLine) → All IsLapse e.lapses → Reported e report report' → Reported e report report'' → SameButForOrder report' report''
+same_reports : (e : Effect) (report report' report'' : List ReportLine) → AllByRecursion IsLapse e.lapses → Reported e report report' → Reported e report report'' → SameButForOrder report' report''
 same_reports e report report' report'' only a b =
     let n = length (lines_of e) in
     let long : (ls : List ReportLine) → IsPermutation e.lapses ls → length (e.before ++ (ls ++ e.later)) ≡ n = λ ls s.
@@ -93,7 +93,7 @@ same_beyond : (n : ℕ) (d e : Desk) → d ≡ e → Beyond n d e
 same_beyond n d e h = subst (Beyond n d) h (record { buys_length = refl; sells_length = refl; stops_length = refl; buys = refl; sells = refl; stops = refl })
 
 both_took : (e : Effect) (d : Desk) (request : Request) (report : List ReportLine) (a b : Answer) (d' d'' : Desk) (report' report'' : List ReportLine)
-    → All IsLapse e.lapses → (reorders request ≡ false → e.lapses ≡ []) → Took e d report a d' report' → Took e d report b d'' report''
+    → AllByRecursion IsLapse e.lapses → (reorders request ≡ false → e.lapses ≡ []) → Took e d report a d' report' → Took e d report b d'' report''
     → Same d request (Ok a) (Ok b) d' d'' report' report''
 both_took e d request report a b d' d'' report' report'' only none t u =
     let queues : book_of d' ≡ book_of d'' = t.book ∙ sym u.book in

@@ -1,6 +1,6 @@
 -- Looking for records, and for a check that holds.
 use Rattle.std.proofs.Common.{◌≡◌, ℕ, suc, Bool, true, false, cond, List, [], ◌∷◌, length, Some, None, Option, sym, refl, ap, ◌∙◌, arith}
-use Rattle.std.specs.List.{AllByRecursion as All}
+use Rattle.std.specs.List.{AllByRecursion}
 use Rattle.std.proofs.lemmas.Bool.{eqb-true, true≢false}
 use Rattle.rules.specs.declared.order.Order.{Order}
 use Rattle.trading.specs.declared.stop.StopOrder.{StopOrder}
@@ -28,10 +28,10 @@ first_passes p (y ∷ xs) x e = (elim (p y) as (λ v. p y ≡ v → cond v (Some
 ]) refl e
 
 -- where nothing is found, every record fails the test
-pub all_fail : {R : Type 0} (p : R → Bool) (xs : List R) → first_that p xs ≡ None → All (λ x. p x ≡ false) xs
+pub all_fail : {R : Type 0} (p : R → Bool) (xs : List R) → first_that p xs ≡ None → AllByRecursion (λ x. p x ≡ false) xs
 unfolding first_that
 all_fail p [] e = tt
-all_fail p (x ∷ xs) e = (elim (p x) as (λ v. cond v (Some x) (first_that p xs) ≡ None → (v ≡ false) × All (λ x. p x ≡ false) xs) [
+all_fail p (x ∷ xs) e = (elim (p x) as (λ v. cond v (Some x) (first_that p xs) ≡ None → (v ≡ false) × AllByRecursion (λ x. p x ≡ false) xs) [
   | true ↦ λ e. absurd (let z : ◌≡◌ {A = ℕ} 0 1 = cc in omega arith)
   | false ↦ λ e. (refl, all_fail p xs e)
 ]) e
@@ -71,9 +71,9 @@ place_of_nowhere None None (Some s) e = absurd (true≢false e)
 place_of_nowhere None None None e = (refl, refl, refl)
 
 pub record NotLive (n : ℕ) (b : Book) : Type 0 where
-  pub buys : All (λ o. numbered n o ≡ false) b.buys
-  pub sells : All (λ o. numbered n o ≡ false) b.sells
-  pub stops : All (λ s. stop_numbered n s ≡ false) b.stops
+  pub buys : AllByRecursion (λ o. numbered n o ≡ false) b.buys
+  pub sells : AllByRecursion (λ o. numbered n o ≡ false) b.sells
+  pub stops : AllByRecursion (λ s. stop_numbered n s ≡ false) b.stops
 
 pub not_live : (n : ℕ) (b : Book) → is_somewhere (place n b) ≡ false → NotLive n b
 not_live n b e =
@@ -84,7 +84,7 @@ not_live n b e =
 
 -- no check holds
 abbrev pub Pass : List Check → Type 0
-Pass = All (λ c. c.holds ≡ false)
+Pass = AllByRecursion (λ c. c.holds ≡ false)
 
 -- where no fault is found, no check holds
 pub none_holds : (cs : List Check) → first_fault cs ≡ None → Pass cs

@@ -1,7 +1,7 @@
 -- Every call that passes its checks keeps the book sound.
 use Rattle.std.proofs.Common.{◌≡◌, ℕ, ◌-◌, ◌<◌, Bool, true, false, cond, not, ◌&&◌, ◌||◌, eqb, List, [], ◌∷◌, Some, sym, refl, ap, ◌∙◌, inl, inr, arith}
 use mathlib.Core.Bool.{beq}
-use Rattle.std.specs.List.{AllByRecursion as All}
+use Rattle.std.specs.List.{AllByRecursion}
 use Rattle.std.proofs.ByRecursion.{All-append}
 use Rattle.std.proofs.lemmas.Bool.{cond_both, cond-false, cases_Bool, both_ways, eqb-true, eqb-false, and_parts, and_from, and_cases, or_left, or_right, not_from_false, not-false, not-true, true≢false}
 use Rattle.grid.specs.Prices.{is_price}
@@ -241,8 +241,8 @@ module _ (v : Venue) (priced : Priced v.grid.lawful) where
 
   -- ---- amending
 
-  lapse_two : (n q : ℕ) → All Two (lapse_above0 n q)
-  lapse_two n q = cond_both (eqb q 0) _ _ (All Two) (λ _. tt) (λ _. (tt, tt))
+  lapse_two : (n q : ℕ) → AllByRecursion Two (lapse_above0 n q)
+  lapse_two n q = cond_both (eqb q 0) _ _ (AllByRecursion Two) (λ _. tt) (λ _. (tt, tt))
 
   module _ (n limit quantity : ℕ) (b : Book)
       (is-quantity : is_quantity quantity ≡ true) (is_lawful : 0 < limit → Lawful v.grid.lawful limit) where

@@ -1,6 +1,6 @@
 -- A queue that has lost records, or parts of them.
 use Rattle.std.proofs.Common.{◌≡◌, ℕ, ◌<◌, ◌≤◌, Bool, false, List, [], ◌∷◌, filter, refl, ap, ◌∙◌, arith}
-use Rattle.std.specs.List.{AllByRecursion as All}
+use Rattle.std.specs.List.{AllByRecursion}
 use Rattle.std.proofs.ByRecursion.{All-weaker}
 use Rattle.std.proofs.lemmas.Bool.{cond_both}
 use Rattle.rules.specs.declared.order.Order.{Order}
@@ -47,7 +47,7 @@ part_front l (skip p) = skip p
 part_front l (like k p) = like (like_trans k l) p
 
 -- what holds of the records, and of what a trade leaves of them
-pub part_all : (P : Order → Type 0) → ((x y : Order) → Like x y → P y → P x) → {xs ys : List Order} → Part xs ys → All P ys → All P xs
+pub part_all : (P : Order → Type 0) → ((x y : Order) → Like x y → P y → P x) → {xs ys : List Order} → Part xs ys → AllByRecursion P ys → AllByRecursion P xs
 part_all P s empty a = tt
 part_all P s (skip p) a = part_all P s p a.1
 part_all P s (like {x = x} {y = y} l p) a = (s x y l a.0, part_all P s p a.1)

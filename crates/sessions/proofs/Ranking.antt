@@ -1,6 +1,6 @@
 -- Who is ahead: never both of two, and transitive; queues stay in order when a record joins or leaves.
 use Rattle.std.proofs.Common.{◌≡◌, ℕ, Bool, true, false, cond, not, List, [], ◌∷◌, Some, sym, refl, ap, subst, inl, inr, arith}
-use Rattle.std.specs.List.{AllByRecursion as All}
+use Rattle.std.specs.List.{AllByRecursion}
 use Rattle.std.proofs.ByRecursion.{All-weaker}
 use Rattle.std.proofs.lemmas.Bool.{cond_both, cases_Bool, both_ways, and_from, true≢false}
 use Rattle.std.proofs.lemmas.Bool.Decides.{nat_tests}
@@ -56,17 +56,17 @@ stop_trans a b c h k = trigger_trans a.side b.side c.side a.trigger b.trigger c.
 
 -- ---- what holds of every record
 
-pub all_joined : {R : Type 0} (P : R → Type 0) (ahead : R → R → Bool) (r : R) (xs : List R) → P r → All P xs → All P (joined ahead r xs)
+pub all_joined : {R : Type 0} (P : R → Type 0) (ahead : R → R → Bool) (r : R) (xs : List R) → P r → AllByRecursion P xs → AllByRecursion P (joined ahead r xs)
 unfolding joined
 all_joined P ahead r [] h a = (h, tt)
-all_joined P ahead r (x ∷ xs) h a = cond_both (ahead r x) _ _ (All P) (λ _. (h, a)) (λ _. (a.0, all_joined P ahead r xs h a.1))
+all_joined P ahead r (x ∷ xs) h a = cond_both (ahead r x) _ _ (AllByRecursion P) (λ _. (h, a)) (λ _. (a.0, all_joined P ahead r xs h a.1))
 
-pub all_without : {R : Type 0} (P : R → Type 0) (p : R → Bool) (xs : List R) → All P xs → All P (without_first p xs)
+pub all_without : {R : Type 0} (P : R → Type 0) (p : R → Bool) (xs : List R) → AllByRecursion P xs → AllByRecursion P (without_first p xs)
 unfolding without_first
 all_without P p [] a = tt
-all_without P p (x ∷ xs) a = cond_both (p x) _ _ (All P) (λ _. a.1) (λ _. (a.0, all_without P p xs a.1))
+all_without P p (x ∷ xs) a = cond_both (p x) _ _ (AllByRecursion P) (λ _. a.1) (λ _. (a.0, all_without P p xs a.1))
 
-pub all_first : {R : Type 0} (P : R → Type 0) (p : R → Bool) (xs : List R) (x : R) → first_that p xs ≡ Some x → All P xs → P x
+pub all_first : {R : Type 0} (P : R → Type 0) (p : R → Bool) (xs : List R) (x : R) → first_that p xs ≡ Some x → AllByRecursion P xs → P x
 unfolding first_that
 all_first P p [] x e a = absurd (let z : ◌≡◌ {A = ℕ} 0 1 = cc in omega arith)
 all_first P p (y ∷ xs) x e a = (elim (p y) as (λ v. cond v (Some y) (first_that p xs) ≡ Some x → P x) [
@@ -79,7 +79,7 @@ all_first P p (y ∷ xs) x e a = (elim (p y) as (λ v. cond v (Some y) (first_th
 -- none is ahead of one that stands before it
 abbrev pub Sorted : {R : Type 0} → (R → R → Bool) → List R → Type 0
 Sorted ahead [] = Unit {0}
-Sorted ahead (x ∷ xs) = All (λ y. ahead y x ≡ false) xs × Sorted ahead xs
+Sorted ahead (x ∷ xs) = AllByRecursion (λ y. ahead y x ≡ false) xs × Sorted ahead xs
 
 -- so none is ahead of its neighbour
 pub sorted_in_order : {R : Type 0} (ahead : R → R → Bool) (xs : List R) → Sorted ahead xs → in_order ahead xs ≡ true

@@ -1,6 +1,6 @@
 -- After a release no stop is due, and so after every call.
 use Rattle.std.proofs.Common.{◌≡◌, ℕ, zero, suc, ◌≤◌, Bool, true, false, List, [], ◌∷◌, length, Some, None, Option, refl, ap, ◌∙◌, subst, arith}
-use Rattle.std.specs.List.{AllByRecursion as All}
+use Rattle.std.specs.List.{AllByRecursion}
 use Rattle.std.proofs.lemmas.Bool.{cond_both}
 use Rattle.rules.specs.declared.order.Order.{Order}
 use Rattle.rules.specs.declared.order.Side.{Side}
@@ -53,9 +53,9 @@ sweeps_stops v t b =
 
 -- no stop that stands is reached, while the book is in continuous trading
 abbrev pub Quiet : Book → Type 0
-Quiet b = is_continuous b.phase ≡ true → All (λ s. reached b.last s ≡ false) b.stops
+Quiet b = is_continuous b.phase ≡ true → AllByRecursion (λ s. reached b.last s ≡ false) b.stops
 
-all_of_none : (P : StopOrder → Type 0) (xs : List StopOrder) → length xs ≤ 0 → All P xs
+all_of_none : (P : StopOrder → Type 0) (xs : List StopOrder) → length xs ≤ 0 → AllByRecursion P xs
 all_of_none P [] h = tt
 all_of_none P (x ∷ xs) h = absurd (let z : ⊥ = omega arith in z)
 

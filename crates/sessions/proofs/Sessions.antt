@@ -1,6 +1,6 @@
 -- Every session keeps the laws.
 use Rattle.std.proofs.Common.{◌≡◌, ℕ, ◌+◌, ◌≤◌, Bool, true, false, cond, not, List, [], ◌∷◌, ◌++◌, length, take, drop, Some, None, Ok, Err, sum_by, Result, sym, refl, ap, ◌∙◌, subst, arith}
-use Rattle.std.specs.List.{AllByRecursion as All}
+use Rattle.std.specs.List.{AllByRecursion}
 use Rattle.std.proofs.ByRecursion.{all-has}
 use Rattle.std.proofs.lemmas.Bool.{both_ways, not-false, le-leb, and_from, not_from_true}
 use Rattle.std.proofs.lemmas.Bool.Decides.{nat_tests}
@@ -57,7 +57,7 @@ total_both f g [] = refl
 total_both f g (x ∷ xs) = omega (arith, total_both f g xs)
 
 -- of a trade between two, the quantity counts once for each number that it names
-named_once : (k : ℕ) (ls : List ReportLine) → All Two ls → total (traded_in k) ls ≡ total (names_traded k) ls
+named_once : (k : ℕ) (ls : List ReportLine) → AllByRecursion Two ls → total (traded_in k) ls ≡ total (names_traded k) ls
 named_once k [] a = refl
 named_once k (l ∷ ls) a = omega (arith, once l a.0, named_once k ls a.1)
   where
@@ -76,7 +76,7 @@ lines_told_lem f e report report' r =
 -- ---- refusals
 
 -- a fault that no check has is not told
-not_told : (number : ℕ) (cs : List Check) → All (λ c. c.holds ≡ true → refusal_number c.fault ≡ number → ⊥) cs → (f : BookFault) → first_fault cs ≡ Some f → refusal_number f ≡ number → ⊥
+not_told : (number : ℕ) (cs : List Check) → AllByRecursion (λ c. c.holds ≡ true → refusal_number c.fault ≡ number → ⊥) cs → (f : BookFault) → first_fault cs ≡ Some f → refusal_number f ≡ number → ⊥
 not_told number [] a f e n = let z : ◌≡◌ {A = ℕ} 0 1 = cc in omega arith
 not_told number (c ∷ cs) a f e n = (elim c.holds as (λ h. c.holds ≡ h → cond h (Some c.fault) (first_fault cs) ≡ Some f → ⊥) [
   | true ↦ λ h e. a.0 h (let i : c.fault ≡ f = cc in ap refusal_number i ∙ n)
@@ -84,7 +84,7 @@ not_told number (c ∷ cs) a f e n = (elim c.holds as (λ h. c.holds ≡ h → c
 ]) refl e
 
 -- the checks of a book have other numbers than 21
-no_21 : (v : Venue) (n : ℕ) (b : Book) (request : Request) → All (λ c. c.holds ≡ true → refusal_number c.fault ≡ 21 → ⊥) (checks_of v n b request)
+no_21 : (v : Venue) (n : ℕ) (b : Book) (request : Request) → AllByRecursion (λ c. c.holds ≡ true → refusal_number c.fault ≡ 21 → ⊥) (checks_of v n b request)
 no_21 v n b (Enter t) = (λ _ e. omega arith, (λ _ e. omega arith, (λ _ e. omega arith, (λ _ e. omega arith, (λ _ e. omega arith, (λ _ e. omega arith, (λ _ e. omega arith, (λ _ e. omega arith, (λ _ e. omega arith, (λ _ e. omega arith, tt))))))))))
 no_21 v n b (Amend number limit quantity) = (λ _ e. omega arith, (λ _ e. omega arith, (λ _ e. omega arith, (λ _ e. omega arith, (λ _ e. omega arith, (λ _ e. omega arith, tt))))))
 no_21 v n b (Cancel number) = (λ _ e. omega arith, (λ _ e. omega arith, (λ _ e. omega arith, tt)))

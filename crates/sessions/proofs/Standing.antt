@@ -1,6 +1,6 @@
 -- What the records of a session's book are like, and the book with them.
 use Rattle.std.proofs.Common.{◌≡◌, ℕ, ◌+◌, ◌<◌, ◌≤◌, Bool, true, false, List, [], ◌∷◌, sym, refl, subst, arith}
-use Rattle.std.specs.List.{AllByRecursion as All}
+use Rattle.std.specs.List.{AllByRecursion}
 use Rattle.std.proofs.lemmas.Bool.{and_from, true≢false}
 use Rattle.std.proofs.lemmas.Bool.Decides.{nat_tests}
 use Rattle.grid.specs.Prices.{is_price, top_price}
@@ -107,9 +107,9 @@ never_ioc limit Vfu h = refl
 
 -- its records are good and in order, its prices are prices
 pub record Rested (v : Venue) (b : Book) : Type 0 where
-  pub buys : All (Good v Buy) b.buys
-  pub sells : All (Good v Sell) b.sells
-  pub stops : All (GoodStop v) b.stops
+  pub buys : AllByRecursion (Good v Buy) b.buys
+  pub sells : AllByRecursion (Good v Sell) b.sells
+  pub stops : AllByRecursion (GoodStop v) b.stops
   pub buys_sorted : Sorted order_ahead b.buys
   pub sells_sorted : Sorted order_ahead b.sells
   pub stops_sorted : Sorted stop_ahead b.stops
@@ -125,8 +125,8 @@ SellsFrom c o = is_day o.validity ≡ true → c ≤ o.limit
 
 pub record Apart (bs ss : List Order) : Type 0 where
   pub at : ℕ
-  pub buys : All (BuysBelow at) bs
-  pub sells : All (SellsFrom at) ss
+  pub buys : AllByRecursion (BuysBelow at) bs
+  pub sells : AllByRecursion (SellsFrom at) ss
 
 -- what every book of a session keeps
 pub record Sound (v : Venue) (b : Book) : Type 0 where
@@ -135,7 +135,7 @@ pub record Sound (v : Venue) (b : Book) : Type 0 where
   pub apart : is_continuous b.phase ≡ true → Apart b.buys b.sells
 
 -- well-formed queues are among it
-all_passes : {R : Type 0} (P : R → Type 0) (p : R → Bool) → ((x : R) → P x → p x ≡ true) → (xs : List R) → All P xs → all_pass p xs ≡ true
+all_passes : {R : Type 0} (P : R → Type 0) (p : R → Bool) → ((x : R) → P x → p x ≡ true) → (xs : List R) → AllByRecursion P xs → all_pass p xs ≡ true
 all_passes P p f [] a = refl
 all_passes P p f (x ∷ xs) a = and_from (p x) (all_pass p xs) (f x a.0) (all_passes P p f xs a.1)
 
@@ -152,4 +152,4 @@ rested_fit v b r =
 -- a move that keeps the book sound, its trades between two
 pub record Safe (v : Venue) (m : Moved) : Type 0 where
   pub sound : Sound v m.book
-  pub two : All Two m.lines
+  pub two : AllByRecursion Two m.lines

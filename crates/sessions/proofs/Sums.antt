@@ -1,6 +1,6 @@
 -- Sums over queues.
 use Rattle.std.proofs.Common.{◌≡◌, ℕ, ◌+◌, Bool, true, false, cond, not, eqb, List, [], ◌∷◌, ◌++◌, Some, filter, refl, ap, arith}
-use Rattle.std.specs.List.{AllByRecursion as All}
+use Rattle.std.specs.List.{AllByRecursion}
 use Rattle.std.proofs.lemmas.Bool.{cond_both}
 use Rattle.rules.specs.Auctions.{total}
 use Rattle.trading.specs.Queues.{joined, first_that, without_first, first_changed}
@@ -46,6 +46,6 @@ module _ {R : Type 0} (f : R → ℕ) where
   ])
 
   -- records that fail a test count for nothing, and so do all of them
-  pub total_zero : (p : R → Bool) → ((x : R) → p x ≡ false → f x ≡ 0) → (xs : List R) → All (λ x. p x ≡ false) xs → total f xs ≡ 0
+  pub total_zero : (p : R → Bool) → ((x : R) → p x ≡ false → f x ≡ 0) → (xs : List R) → AllByRecursion (λ x. p x ≡ false) xs → total f xs ≡ 0
   total_zero p h [] a = refl
   total_zero p h (x ∷ xs) a = omega (arith, h x a.0, total_zero p h xs a.1)

@@ -1,6 +1,6 @@
 -- An uncrossing keeps a book sound.
 use Rattle.std.proofs.Common.{◌≡◌, ℕ, ◌+◌, ◌≤◌, Bool, List, [], ◌∷◌, refl, ap, subst, inl, inr, arith}
-use Rattle.std.specs.List.{AllByRecursion as All}
+use Rattle.std.specs.List.{AllByRecursion}
 use Rattle.std.proofs.ByRecursion.{All-append}
 use Rattle.std.proofs.lemmas.Bool.{cases_Bool, cases_eq}
 use Rattle.grid.specs.Neighbours.{Lawful, Priced}
@@ -27,7 +27,7 @@ use Rattle.sessions.proofs.Lapsing.{all_lapses_lem, vfu_lapses_lem}
 -- an effect that keeps the book sound, its trades between two
 pub record SafeEffect (v : Venue) (e : Effect) : Type 0 where
   pub sound : Sound v e.book
-  pub two : All Two (lines_of e)
+  pub two : AllByRecursion Two (lines_of e)
 
 -- ---- the trades
 
@@ -37,8 +37,8 @@ Once bs ss = (k : ℕ) → total (named k) bs + total (named k) ss ≤ 1
 once_two : (b s : Order) (bs ss : List Order) → Once (b ∷ bs) (s ∷ ss) → b.number ≡ s.number → ⊥
 once_two b s bs ss h e = omega (arith, h b.number, one_itself b.number, one_itself s.number, ap (λ k. named k s) e)
 
-pairs_two : (p : ℕ) (bs ss : List Order) → Once bs ss → All Two (pairs p bs ss).trades
-pairs_two p = pairs_by p (λ bs ss r. Once bs ss → All Two r.trades)
+pairs_two : (p : ℕ) (bs ss : List Order) → Once bs ss → AllByRecursion Two (pairs p bs ss).trades
+pairs_two p = pairs_by p (λ bs ss r. Once bs ss → AllByRecursion Two r.trades)
     (λ ss h. tt)
     (λ b bs h. tt)
     (λ b bs ss r a i h. i (λ k. omega (arith, h k)))
@@ -93,7 +93,7 @@ module _ (v : Venue) (priced : Priced v.grid.lawful) where
     apart = λ _. record { at = 0; buys = tt; sells = tt };
   }
 
-  goes_on_safe : (next : Next) (o : Opening) (trades : List ReportLine) (b : Book) → All Two trades → Rested v b → Unique b → Apart b.buys b.sells → SafeEffect v (going_on v next o trades b)
+  goes_on_safe : (next : Next) (o : Opening) (trades : List ReportLine) (b : Book) → AllByRecursion Two trades → Rested v b → Unique b → Apart b.buys b.sells → SafeEffect v (going_on v next o trades b)
   goes_on_safe Trading o trades b t r u a =
       let m = release_all_safe v (without_vfu b) (without_vfu_sound b r u a) in
       record { sound = m.sound; two = All-append Two trades _ t (All-append Two (vfu_lapses b) _ (vfu_lapses_lem Two (λ n q. tt) b) m.two) }

@@ -1,7 +1,6 @@
 -- Where the quantity of an order number goes.
 use Rattle.std.specs.Prelude.{ℕ, ◌+◌, cond, ◌||◌, Ok, Err, Result, ◌==◌}
 use Rattle.rules.specs.declared.order.Order.{Order}
-use Rattle.rules.specs.declared.opening.Opening.{Opening}
 use Rattle.rules.specs.Auctions.{total}
 use Rattle.trading.specs.declared.stop.StopOrder.{StopOrder}
 use Rattle.trading.specs.declared.answer.Answer.{Answer}

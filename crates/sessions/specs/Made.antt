@@ -1,5 +1,5 @@
 -- What a public call says of itself: it is carried out by the rules, and every session that it ends keeps the laws.
-use Rattle.std.specs.Prelude.{◌≡◌, ℕ, Bool, true, false, List, [], ◌∷◌, map, reverse, Result}
+use Rattle.std.specs.Prelude.{◌≡◌, ℕ, Bool, List, ◌∷◌, map, reverse, Result}
 use Rattle.trading.specs.declared.answer.Answer.{Answer}
 use Rattle.trading.specs.declared.fault.BookFault.{BookFault}
 use Rattle.trading.specs.declared.report.ReportLine.{ReportLine}

@@ -1,6 +1,6 @@
 -- The rules leave one answer to each call, and check in one order.
 use Rattle.std.specs.Prelude.{◌≡◌, ℕ, Bool, true, false, List, [], ◌∷◌, ◌++◌, map, Result}
-use Rattle.std.specs.List.{AllByRecursion as All}
+use Rattle.std.specs.List.{AllByRecursion}
 use Rattle.std.specs.List.Sorted.{IsPermutation}
 use Rattle.trading.specs.declared.answer.Answer.{Answer}
 use Rattle.trading.specs.declared.fault.BookFault.{BookFault}
@@ -43,7 +43,7 @@ pub record SameButForOrder (report report' : List ReportLine) : Type 0 where
   pub back : List ReportLine
   pub is_first : report ≡ front ++ (first ++ back)
   pub is_second : report' ≡ front ++ (second ++ back)
-  pub lapse_lines : All IsLapse first
+  pub lapse_lines : AllByRecursion IsLapse first
   pub shuffled : IsPermutation first second
 
 -- the requests whose lapse lines may stand in another order

@@ -1,6 +1,6 @@
 -- How a sweep goes on past the orders that sleep.
 use Rattle.std.proofs.Common.{◌≡◌, ℕ, zero, suc, ◌-◌, ◌<◌, ◌≤◌, min, Bool, true, false, eqb, leb, List, [], ◌∷◌, ◌++◌, length, get_or, take, drop, set, sym, refl, ap, ◌∙◌, subst, arith}
-use Rattle.std.specs.List.{remove, AllByRecursion as All}
+use Rattle.std.specs.List.{remove, AllByRecursion}
 use Rattle.std.proofs.lemmas.List.{append-nil, set-get_or, set_split, take_all}
 use Rattle.std.proofs.lemmas.Bool.{cond_both, ne_eqb, leb-false}
 use Rattle.rules.specs.declared.order.Order.{Order}
@@ -16,8 +16,8 @@ Asleep o = is_day o.validity ≡ false
 abbrev kept : List Order → Swept → Swept
 kept p s = record { trades = s.trades; queue = p ++ s.queue; rest = s.rest; last = s.last; ending = s.ending }
 
-pub all_whole : (P : Order → Type 0) (n : ℕ) (xs : List Order) → length xs ≤ n → All P (take n xs) → All P xs
-all_whole P n xs le h = subst (All P) (take_all n xs le) h
+pub all_whole : (P : Order → Type 0) (n : ℕ) (xs : List Order) → length xs ≤ n → AllByRecursion P (take n xs) → AllByRecursion P xs
+all_whole P n xs le h = subst (AllByRecursion P) (take_all n xs le) h
 
 some_left : (n : ℕ) → 0 < n → eqb n 0 ≡ false
 some_left n h = ne_eqb n 0 (omega arith)
@@ -32,7 +32,7 @@ module _ (allows : ℕ → ℕ → Bool) (t : Order) where
   sweep_none last (o ∷ os) = refl
 
   -- the sleepers stay in front
-  sweep_past : (rest last : ℕ) (p q : List Order) → All Asleep p → sweep allows t rest last (p ++ q) ≡ kept p (sweep allows t rest last q)
+  sweep_past : (rest last : ℕ) (p q : List Order) → AllByRecursion Asleep p → sweep allows t rest last (p ++ q) ≡ kept p (sweep allows t rest last q)
   unfolding sweep
   sweep_past zero last p q h = sweep_none last (p ++ q) ∙ sym (ap (kept p) (sweep_none last q))
   sweep_past (suc n) last [] q h = refl
@@ -41,7 +41,7 @@ module _ (allows : ℕ → ℕ → Bool) (t : Order) where
       rw (nz, h.0) (ap (keeping o) (sweep_past (suc n) last p q h.1))
 
   -- a queue of sleepers
-  pub sweep_asleep : (rest last : ℕ) (p : List Order) → 0 < rest → All Asleep p → sweep allows t rest last p ≡ stopped p rest last Nobody
+  pub sweep_asleep : (rest last : ℕ) (p : List Order) → 0 < rest → AllByRecursion Asleep p → sweep allows t rest last p ≡ stopped p rest last Nobody
   unfolding sweep
   sweep_asleep rest last p z h =
       let e = append-nil p in
@@ -50,7 +50,7 @@ module _ (allows : ℕ → ℕ → Bool) (t : Order) where
       ap (sweep allows t rest last) (sym e) ∙ sweep_past rest last p [] h ∙ ap (kept p) end ∙ ap (λ xs. stopped xs rest last Nobody) e
 
   -- behind sleepers, the first order that is awake is o
-  module _ (rest last : ℕ) (p : List Order) (o : Order) (os : List Order) (z : 0 < rest) (h : All Asleep p) (d : is_day o.validity ≡ true) where
+  module _ (rest last : ℕ) (p : List Order) (o : Order) (os : List Order) (z : 0 < rest) (h : AllByRecursion Asleep p) (d : is_day o.validity ≡ true) where
     first_outside : within t.side t.limit o.limit ≡ false → sweep allows t rest last (p ++ o ∷ os) ≡ stopped (p ++ o ∷ os) rest last Nobody
     unfolding sweep
     first_outside w =
@@ -82,7 +82,7 @@ module _ (allows : ℕ → ℕ → Bool) (t : Order) where
         sweep_past rest last p (o ∷ os) h ∙ ap (kept p) here ∙ ap (trading line) (sym (sweep_none o.limit (p ++ reduced o rest ∷ os)))
 
   -- the order at i is the first that is awake
-  module _ (rest last : ℕ) (os : List Order) (i : ℕ) (z : 0 < rest) (lt : i < length os) (h : All Asleep (take i os)) (d : is_day (get_or os i blank).validity ≡ true) where
+  module _ (rest last : ℕ) (os : List Order) (i : ℕ) (z : 0 < rest) (lt : i < length os) (h : AllByRecursion Asleep (take i os)) (d : is_day (get_or os i blank).validity ≡ true) where
     pub at_outside : within t.side t.limit (get_or os i blank).limit ≡ false → sweep allows t rest last os ≡ stopped os rest last Nobody
     at_outside w =
         let e = queue_split os i lt in

@@ -1,6 +1,6 @@
 // Whom an order may meet, and the line of their trade.
 ghost use Rattle.std.specs.Prelude.{◌≡◌, ◌<◌, ◌≤◌, true, false, length, take, slice_index_or};
-ghost use Rattle.std.specs.List.{AllByRecursion as All};
+ghost use Rattle.std.specs.List.{AllByRecursion};
 ghost use Rattle.trading.specs.Books.{is_day};
 ghost use Rattle.trading.specs.Sweeps.{within};
 ghost use Rattle.sweeping.specs.Steps.{blank, trade_with};
@@ -51,7 +51,7 @@ pub fn trade_line(order: Order, resting: Order, quantity: u32) -> ReportLine
 // The place of the first day order of a queue, or the queue's length: the orders in front of it sleep until the next call.
 pub fn first_day(queue: &[Order]) -> usize
     ensures inside { result ≤ length queue.now }
-    ensures asleep { All (λ o. is_day o.validity ≡ false) (take result queue.now) }
+    ensures asleep { AllByRecursion (λ o. is_day o.validity ≡ false) (take result queue.now) }
     ensures awake { result < length queue.now → is_day (slice_index_or queue.now result blank).validity ≡ true }
 {
     for (i, order) in queue.iter().enumerate() {

@@ -1,5 +1,5 @@
 -- A call carried out by the rules, on a state, three tables and a report as they lie in memory.
-use Rattle.std.specs.Prelude.{◌≡◌, ℕ, ◌≤◌, List, ◌++◌, length, drop, Result, MatchResult}
+use Rattle.std.specs.Prelude.{◌≡◌, ◌≤◌, List, ◌++◌, length, drop, Result, MatchResult}
 use Rattle.std.specs.List.Sorted.{IsPermutation}
 use Rattle.trading.specs.declared.answer.Answer.{Answer}
 use Rattle.trading.specs.declared.fault.BookFault.{BookFault}

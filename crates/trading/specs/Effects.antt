@@ -1,5 +1,5 @@
 -- What a call that is taken comes to.
-use Rattle.std.specs.Prelude.{ℕ, List, [], ◌++◌, length}
+use Rattle.std.specs.Prelude.{List, [], ◌++◌, length}
 use Rattle.trading.specs.declared.answer.Outcome.{Outcome}
 use Rattle.trading.specs.declared.answer.Answer.{Answer}
 use Rattle.trading.specs.declared.report.ReportLine.{ReportLine}

@@ -1,6 +1,6 @@
 -- Small sessions to check by hand, computed on the rules.
 use Rattle.std.specs.Prelude.{◌≡◌, ℕ, Bool, true, List, [], ◌∷◌, ◌++◌, length, drop, replicate, Some, None, Option}
-use Rattle.std.specs.List.{AllByRecursion as All}
+use Rattle.std.specs.List.{AllByRecursion}
 use Rattle.grid.specs.Steps.{on_steps}
 use Rattle.grid.specs.declared.GridFault.TheVariants.{PastLast, BelowFirst, BetweenSteps}
 use Rattle.collar.specs.Bands.{within}
@@ -391,7 +391,7 @@ AsTold x = run x.venue_is x.room x.desk x.calls ≡ x.sights
 
 -- every call of every example is seen to do what is written beside it
 abbrev pub SessionsAsTold : Type 0
-SessionsAsTold = All AsTold examples
+SessionsAsTold = AllByRecursion AsTold examples
 
 -- ---- new books
 
@@ -411,7 +411,7 @@ OpensSo x = first_fault (new_checks x.opening) ≡ x.fault
 
 -- every opening price is taken or refused as is written beside it
 abbrev pub OpeningsAsTold : Type 0
-OpeningsAsTold = All OpensSo opening_rows
+OpeningsAsTold = AllByRecursion OpensSo opening_rows
 
 -- ---- the openings and edges of the rules, all together
 

@@ -6,7 +6,6 @@ use Rattle.rules.specs.declared.opening.Opening.TheVariants.{NoPrice, Printed, R
 use Rattle.rules.specs.Accepts.{accepts_buying, accepts_selling}
 use Rattle.rules.specs.Openings.{opening}
 use Rattle.trading.specs.declared.stop.StopOrder.{StopOrder}
-use Rattle.trading.specs.declared.answer.Outcome.{Outcome}
 use Rattle.trading.specs.declared.answer.Outcome.TheVariants.{Uncrossed}
 use Rattle.trading.specs.declared.report.ReportLine.{ReportLine}
 use Rattle.trading.specs.declared.report.ReportLine.TheVariants.{Trade, Lapse}
@@ -14,7 +13,7 @@ use Rattle.trading.specs.declared.request.Next.{Next}
 use Rattle.trading.specs.declared.request.Next.TheVariants.{Trading, Close}
 use Rattle.trading.specs.declared.state.Phase.TheVariants.{Continuous, Ended}
 use Rattle.trading.specs.Books.{Venue, Book, auction_of, is_vfu, with_phase, with_stops, with_orders, with_prices, reduced}
-use Rattle.trading.specs.Sweeps.{Moved, moved, release_all}
+use Rattle.trading.specs.Sweeps.{moved, release_all}
 use Rattle.trading.specs.Effects.{Effect, plainly}
 
 -- ---- pairing

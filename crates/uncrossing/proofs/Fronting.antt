@@ -1,6 +1,6 @@
 -- In well-formed queues those who accept a price stand in front.
 use Rattle.std.proofs.Common.{◌≡◌, ℕ, Bool, true, false, not, ◌||◌, eqb, leb, List, [], ◌∷◌, arith}
-use Rattle.std.specs.List.{AllByRecursion as All}
+use Rattle.std.specs.List.{AllByRecursion}
 use Rattle.std.proofs.lemmas.Bool.{and_parts}
 use Rattle.std.proofs.lemmas.Bool.Decides.{nat_tests}
 use Rattle.rules.specs.declared.order.Order.{Order}
@@ -37,7 +37,7 @@ ahead_on Sell Sell Buy a b e f h = grind (arith, nat_tests)
 
 module _ (side : Side) (accepts : Order → Bool) (behind : Behind side accepts) where
   -- none accepts behind one that does not
-  none_behind : (x : Order) (xs : List Order) → order_fits side x ≡ true → all_pass (order_fits side) xs ≡ true → not_ahead order_ahead x xs ≡ true → in_order order_ahead xs ≡ true → accepts x ≡ false → All (λ y. accepts y ≡ false) xs
+  none_behind : (x : Order) (xs : List Order) → order_fits side x ≡ true → all_pass (order_fits side) xs ≡ true → not_ahead order_ahead x xs ≡ true → in_order order_ahead xs ≡ true → accepts x ≡ false → AllByRecursion (λ y. accepts y ≡ false) xs
   none_behind x [] f fs n o out = tt
   none_behind x (y ∷ ys) f fs n o out =
       let fits = and_parts (order_fits side y) (all_pass (order_fits side) ys) fs in

@@ -1,7 +1,7 @@
 -- Pairing, turn by turn: the first buy and the first sell trade, until one of them does not accept.
 use Rattle.std.proofs.Common.{◌≡◌, ℕ, suc, ◌+◌, ◌-◌, ◌<◌, ◌≤◌, min, Bool, true, false, cond, leb, List, [], ◌∷◌, length, get_or, take, drop, set, sym, refl, ap, ◌∙◌, subst, inl, inr, add-one, arith}
 use lib.Seq.{sets, sets-eq}
-use Rattle.std.specs.List.{AllByRecursion as All}
+use Rattle.std.specs.List.{AllByRecursion}
 use Rattle.std.proofs.lemmas.List.{drop-set-lt, length-take}
 use Rattle.std.proofs.lemmas.Bool.{and_parts, and_cases, both_ways, cases_lt, cases_Bool, cond_both, lt-leb, le-leb, eq-eqb, ne_eqb, lt-ltb, le-ltb}
 use Rattle.rules.specs.declared.order.Order.{Order}
@@ -24,12 +24,12 @@ less o q os = cond (leb o.«open» q) os (reduced o q ∷ os)
 
 module _ (p : ℕ) where
   -- where no sell accepts, nothing trades
-  meets_nobody : (b : Order) (next : List Order → Paired) (bs ss : List Order) → All (λ s. accepts_selling p s ≡ false) ss → meets p b next bs ss ≡ unpaired (b ∷ bs) ss
+  meets_nobody : (b : Order) (next : List Order → Paired) (bs ss : List Order) → AllByRecursion (λ s. accepts_selling p s ≡ false) ss → meets p b next bs ss ≡ unpaired (b ∷ bs) ss
   unfolding meets
   meets_nobody b next bs [] h = refl
   meets_nobody b next bs (s ∷ ss) h = let e = h.0 in rw e (ap (keeping_sell s) (meets_nobody b next bs ss h.1))
 
-  no_seller : (bs ss : List Order) → All (λ s. accepts_selling p s ≡ false) ss → pairs p bs ss ≡ unpaired bs ss
+  no_seller : (bs ss : List Order) → AllByRecursion (λ s. accepts_selling p s ≡ false) ss → pairs p bs ss ≡ unpaired bs ss
   unfolding pairs
   no_seller [] ss h = refl
   no_seller (b ∷ bs) ss h = elim (cases_Bool (accepts_buying p b)) [
@@ -38,7 +38,7 @@ module _ (p : ℕ) where
   ]
 
   -- where no buy accepts, nothing trades
-  no_buyer : (bs ss : List Order) → All (λ b. accepts_buying p b ≡ false) bs → pairs p bs ss ≡ unpaired bs ss
+  no_buyer : (bs ss : List Order) → AllByRecursion (λ b. accepts_buying p b ≡ false) bs → pairs p bs ss ≡ unpaired bs ss
   unfolding pairs
   no_buyer [] ss h = refl
   no_buyer (b ∷ bs) ss h = let e = h.0 in rw e (ap (keeping_buy b) (no_buyer bs ss h.1))

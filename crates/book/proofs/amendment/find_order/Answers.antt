@@ -1,9 +1,7 @@
-use Rattle.std.proofs.Common.{ap, subst, arith}
+use Rattle.std.proofs.Common.{subst, arith}
 use Rattle.std.proofs.lemmas.List.{length-take-le}
-use Rattle.trading.specs.Books.{blank_stop}
 use Rattle.trading.specs.Desks.{desk_of, book_of}
-use Rattle.trading.specs.Calls.{is_order}
-use Rattle.book.specs.declared.finding.Spot.TheVariants.{Buys, Sells, Stops}
+use Rattle.book.specs.declared.finding.Spot.TheVariants.{Buys, Sells}
 use Rattle.book.specs.Finding.{AtSpot}
 use Rattle.book.proofs.Amends.{buy_stands, sell_stands, stop_stands}
 use Rattle.book.proofs.amendment.find_order.Goals as goal

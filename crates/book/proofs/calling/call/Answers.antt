@@ -1,4 +1,4 @@
-use Rattle.std.proofs.Common.{[], refl, ap, arith, rules}
+use Rattle.std.proofs.Common.{[], refl, ap, arith}
 use Rattle.std.proofs.lemmas.Result.{err_from_is_err_and}
 use Rattle.trading.specs.declared.answer.Outcome.TheVariants.{Accepted}
 use Rattle.trading.specs.declared.request.Request.TheVariants.{Call}

@@ -1,4 +1,4 @@
-use Rattle.std.proofs.Common.{sym, refl, ap, arith, rules}
+use Rattle.std.proofs.Common.{sym, refl, ap}
 use Rattle.std.proofs.lemmas.Result.{err_from_is_err_and}
 use Rattle.std.proofs.lemmas.List.{append-nil}
 use Rattle.trading.specs.declared.request.Request.TheVariants.{End}

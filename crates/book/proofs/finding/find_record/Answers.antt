@@ -1,5 +1,4 @@
 use native.Mathlib.Nat.{sub-zero}
-use Rattle.trading.specs.Books.{Book}
 use Rattle.trading.specs.Desks.{desk_of, book_of}
 use Rattle.book.proofs.Spots.{at_buys, at_sells, at_stops, at_none}
 use Rattle.book.proofs.finding.find_record.Goals as goal

@@ -1,5 +1,3 @@
-use Rattle.std.proofs.Common.{ap}
-use Rattle.trading.specs.declared.fault.Unlawful.{Unlawful}
 use Rattle.checks.proofs.Lawfulness.{is_unlawful, why}
 use Rattle.checks.proofs.brought.check_lawful.Goals as goal
 
