@@ -3,22 +3,22 @@ use Rattle.std.proofs.lemmas.Result.{err_from_is_err_and}
 use Rattle.script.specs.Grammar.{collar}
 use Rattle.script.proofs.collars.collar.Goals as goal
 
-pub returns-in-err-word : goal.returns-in-err-word
+pub returns-in_err-word : goal.returns-in_err-word
 unfolding collar
-returns-in-err-word c =
-    let p = err_from_is_err_and c.from-residual.result c.from-residual.ensures.1 in
-    rw (p.1, p.2) (rw c.in-err-word.ensures refl)
+returns-in_err-word c =
+    let p = err_from_is_err_and c.from_residual.result c.from_residual.ensures.1 in
+    rw (p.1, p.2) (rw c.in_err-word.ensures refl)
 
 pub returns-then-is : goal.returns-then-is
 unfolding collar
-returns-then-is c = rw (c.in-ok-word.ensures, ← c.if-is.ensures) c.around-static.ensures
+returns-then-is c = rw (c.in_ok-word.ensures, ← c.if-is.ensures) c.around_static.ensures
 
-pub returns-in-err-plain : goal.returns-in-err-plain
+pub returns-in_err-plain : goal.returns-in_err-plain
 unfolding collar
-returns-in-err-plain c =
-    let p = err_from_is_err_and c.from-residual-in-err-plain.result c.from-residual-in-err-plain.ensures.1 in
-    rw (p.1, p.2) (rw (c.in-ok-word.ensures, ← c.if-is.ensures, c.in-err-plain.ensures) refl)
+returns-in_err-plain c =
+    let p = err_from_is_err_and c.from_residual-in_err-plain.result c.from_residual-in_err-plain.ensures.1 in
+    rw (p.1, p.2) (rw (c.in_ok-word.ensures, ← c.if-is.ensures, c.in_err-plain.ensures) refl)
 
 pub returns : goal.returns
 unfolding collar
-returns c = rw (c.in-ok-word.ensures, ← c.if-is.ensures, c.in-ok-plain.ensures) c.finish.ensures
+returns c = rw (c.in_ok-word.ensures, ← c.if-is.ensures, c.in_ok-plain.ensures) c.finish.ensures

@@ -1,8 +1,6 @@
-use Rattle.std.proofs.lemmas.Slice.Eq.{slice_eq-Decides, bytes_eq-Decides}
-use Rattle.std.proofs.lemmas.Bool.Decides.{same_from_decides, Decides-eqb}
 use Rattle.script.specs.Grammar.{is}
 use Rattle.script.proofs.cursor.is.Goals as goal
 
 pub returns : goal.returns
 unfolding is
-returns c = same_from_decides _ _ (slice_eq-Decides Decides-eqb _ _ _ c.eq.ensures) (bytes_eq-Decides _ _)
+returns c = c.eq.ensures

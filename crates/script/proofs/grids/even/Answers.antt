@@ -3,24 +3,24 @@ use Rattle.std.proofs.lemmas.Result.{err_from_is_err_and}
 use Rattle.script.specs.Grammar.{even}
 use Rattle.script.proofs.grids.even.Goals as goal
 
-pub returns-in-err-first : goal.returns-in-err-first
+pub returns-in_err-first : goal.returns-in_err-first
 unfolding even
-returns-in-err-first c =
-    let p = err_from_is_err_and c.from-residual.result c.from-residual.ensures.1 in
-    rw (p.1, p.2) (rw c.in-err-first.ensures refl)
+returns-in_err-first c =
+    let p = err_from_is_err_and c.from_residual.result c.from_residual.ensures.1 in
+    rw (p.1, p.2) (rw c.in_err-first.ensures refl)
 
-pub returns-in-err-step : goal.returns-in-err-step
+pub returns-in_err-step : goal.returns-in_err-step
 unfolding even
-returns-in-err-step c =
-    let p = err_from_is_err_and c.from-residual-in-err-step.result c.from-residual-in-err-step.ensures.1 in
-    rw (p.1, p.2) (rw (c.in-ok-first.ensures, c.in-err-step.ensures) refl)
+returns-in_err-step c =
+    let p = err_from_is_err_and c.from_residual-in_err-step.result c.from_residual-in_err-step.ensures.1 in
+    rw (p.1, p.2) (rw (c.in_ok-first.ensures, c.in_err-step.ensures) refl)
 
-pub returns-in-err-last : goal.returns-in-err-last
+pub returns-in_err-last : goal.returns-in_err-last
 unfolding even
-returns-in-err-last c =
-    let p = err_from_is_err_and c.from-residual-in-err-last.result c.from-residual-in-err-last.ensures.1 in
-    rw (p.1, p.2) (rw (c.in-ok-first.ensures, c.in-ok-step.ensures, c.in-err-last.ensures) refl)
+returns-in_err-last c =
+    let p = err_from_is_err_and c.from_residual-in_err-last.result c.from_residual-in_err-last.ensures.1 in
+    rw (p.1, p.2) (rw (c.in_ok-first.ensures, c.in_ok-step.ensures, c.in_err-last.ensures) refl)
 
 pub returns : goal.returns
 unfolding even
-returns c = rw (c.in-ok-first.ensures, c.in-ok-step.ensures, c.in-ok-last.ensures) c.finish.ensures
+returns c = rw (c.in_ok-first.ensures, c.in_ok-step.ensures, c.in_ok-last.ensures) c.finish.ensures

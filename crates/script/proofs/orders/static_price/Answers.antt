@@ -3,12 +3,12 @@ use Rattle.std.proofs.lemmas.Result.{err_from_is_err_and}
 use Rattle.script.specs.Grammar.{one_price}
 use Rattle.script.proofs.orders.static_price.Goals as goal
 
-pub returns-in-err-price : goal.returns-in-err-price
+pub returns-in_err-price : goal.returns-in_err-price
 unfolding one_price
-returns-in-err-price c =
-    let p = err_from_is_err_and c.from-residual.result c.from-residual.ensures.1 in
-    rw (p.1, p.2) (rw c.in-err-price.ensures refl)
+returns-in_err-price c =
+    let p = err_from_is_err_and c.from_residual.result c.from_residual.ensures.1 in
+    rw (p.1, p.2) (rw c.in_err-price.ensures refl)
 
 pub returns : goal.returns
 unfolding one_price
-returns c = rw c.in-ok-price.ensures c.finish.ensures
+returns c = rw c.in_ok-price.ensures c.finish.ensures
