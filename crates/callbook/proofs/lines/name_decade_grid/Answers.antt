@@ -7,5 +7,5 @@ use Rattle.callbook.proofs.lines.name_decade_grid.Goals as goal
 
 pub returns : goal.returns
 returns c =
-    named_grid None on_decades (desk_of c.args.book.now) (desk_of c.set-grid.new.self) (Decade (record {}))
-    refl (λ p. refl) c.in-ok-set-grid.ensures
+    named_grid None on_decades (desk_of c.args.book.now) (desk_of c.set_grid.new.self) (Decade (record {}))
+    refl (λ p. refl) c.in_ok-set_grid.ensures

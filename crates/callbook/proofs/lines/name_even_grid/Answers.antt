@@ -10,7 +10,7 @@ use Rattle.callbook.proofs.lines.name_even_grid.Goals as goal
 
 pub returns : goal.returns
 returns c =
-    let made = c.in-ok-grid.ensures in
+    let made = c.in_ok-grid.ensures in
     named_grid (even_refusal c.args.first c.args.step c.args.last) (on_steps c.args.first c.args.step c.args.last)
-    (desk_of c.args.book.now) (desk_of c.set-grid.new.self) (Even c.in-ok-grid.grid)
-    (ap (option_map EvenGridUnfit) made.0) (λ p. rw (made.1, made.2, made.3)) c.in-ok-set-grid.ensures
+    (desk_of c.args.book.now) (desk_of c.set_grid.new.self) (Even c.in_ok-grid.grid)
+    (ap (option_map EvenGridUnfit) made.0) (λ p. rw (made.1, made.2, made.3)) c.in_ok-set_grid.ensures

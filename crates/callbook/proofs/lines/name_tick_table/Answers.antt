@@ -11,7 +11,7 @@ use Rattle.callbook.proofs.lines.name_tick_table.Goals as goal
 pub returns : goal.returns
 returns c =
     let rows = c.args.rows.now in
-    let made = c.in-ok-table.ensures in
+    let made = c.in_ok-table.ensures in
     named_grid (table_refusal rows c.args.end) (on_rows rows (length rows) c.args.end)
-    (desk_of c.args.book.now) (desk_of c.set-grid.new.self) (Table c.in-ok-table.table)
-    (ap (option_map TickTableUnfit) made.0) made.1 c.in-ok-set-grid.ensures
+    (desk_of c.args.book.now) (desk_of c.set_grid.new.self) (Table c.in_ok-table.table)
+    (ap (option_map TickTableUnfit) made.0) made.1 c.in_ok-set_grid.ensures
