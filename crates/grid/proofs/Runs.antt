@@ -6,7 +6,7 @@ use Rattle.grid.specs.Neighbours.{Lawful}
 use Rattle.grid.specs.Steps.{on_steps}
 use Rattle.grid.proofs.Multiples.{down_multiple, up_multiple, down_last, up_first}
 
--- what `onSteps` tests
+-- what `on_steps` tests
 abbrev pub OnSteps : ℕ → ℕ → ℕ → ℕ → Type 0
 OnSteps first step last p = (first ≤ p) × (p ≤ last) × ((p - first) % step ≡ 0)
 

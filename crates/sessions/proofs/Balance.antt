@@ -50,7 +50,7 @@ pub count_length : {R : Type 0} (xs : List R) → total one xs ≡ length xs
 count_length [] = refl
 count_length (x ∷ xs) = omega (arith, count_length xs)
 
--- the sum over a book, given what an order and what a stop counts for: `openOf k` and `size` are such sums
+-- the sum over a book, given what an order and what a stop counts for: `open_of k` and `size` are such sums
 abbrev sum_over : (Order → ℕ) → (StopOrder → ℕ) → Book → ℕ
 sum_over f g b = total f b.buys + total f b.sells + total g b.stops
 
