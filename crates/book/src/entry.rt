@@ -2,9 +2,9 @@
 ghost use Rattle.std.specs.Prelude.{◌≡◌, ℕ, ◌≤◌, not, ◌&&◌, List, length};
 ghost use Rattle.rules.specs.Candidates.{Grid};
 ghost use Rattle.trading.specs.declared.stop.StopOrder.{StopOrder as Stop};
-ghost use Rattle.trading.specs.Books.{is_ioc as is_immediate};
+ghost use Rattle.trading.specs.Books.{is_ioc};
 ghost use Rattle.trading.specs.Sweeps.{reached, swept_by};
-ghost use Rattle.trading.specs.Calls.{is_stop as is_stop_kind, stop_of, order_of, is_empty};
+ghost use Rattle.trading.specs.Calls.{is_stop, stop_of, order_of, is_empty};
 ghost use Rattle.trading.specs.Desks.{desk_of, book_of, capacity};
 ghost use Rattle.trading.specs.Moves.{counted};
 ghost use Rattle.checks.specs.Ground.{CheckedBy};
@@ -43,7 +43,7 @@ pub fn order_of(ticket: Ticket) -> Order
 }
 
 pub fn is_stop(kind: Kind) -> bool
-    ensures { result ≡ is_stop_kind kind }
+    ensures { result ≡ is_stop kind }
 {
     match kind {
         Kind::Limit => false,
@@ -53,7 +53,7 @@ pub fn is_stop(kind: Kind) -> bool
 }
 
 fn is_ioc(validity: Validity) -> bool
-    ensures { result ≡ is_immediate validity }
+    ensures { result ≡ is_ioc validity }
 {
     match validity {
         Validity::Day => false,
@@ -64,7 +64,7 @@ fn is_ioc(validity: Validity) -> bool
 
 // Whether a ticket is a stop that the last price already reaches.
 fn is_reached_stop(ticket: Ticket, last: u32) -> bool
-    ensures { result ≡ is_stop_kind ticket.kind && reached last (stop_of ticket) }
+    ensures { result ≡ is_stop ticket.kind && reached last (stop_of ticket) }
 {
     is_stop(ticket.kind) && is_reached(stop_of(ticket), last)
 }
@@ -111,7 +111,7 @@ fn lacks_first_trade<C: Collar>(
 ) -> bool
     requires buys { state.buys ≤ length buys.now }
     requires sells { state.sells ≤ length sells.now }
-    ensures { (g : Grid) (stops : List Stop) → result ≡ is_immediate ticket.validity && is_empty (swept_by (venue g (C.allows collar.now)) (order_of ticket) (book_of (desk_of state buys.now sells.now stops))).trades }
+    ensures { (g : Grid) (stops : List Stop) → result ≡ is_ioc ticket.validity && is_empty (swept_by (venue g (C.allows collar.now)) (order_of ticket) (book_of (desk_of state buys.now sells.now stops))).trades }
 {
     is_ioc(ticket.validity) && !trades_at_once(collar, state, buys, sells, order_of(ticket))
 }

@@ -1,7 +1,7 @@
 // What a request brings: its numbers, what goes together in it, and whether its prices are lawful.
 ghost use Rattle.std.specs.Prelude.{◌≡◌};
 ghost use Rattle.checks.specs.Ground.{CheckedBy};
-ghost use Rattle.checks.specs.Brought.{PartChecked, ticket_checks, takes_validity as taken};
+ghost use Rattle.checks.specs.Brought.{PartChecked, ticket_checks, takes_validity};
 
 use crate::ranges::{is_number, is_quantity, pair_up};
 use grid::PriceGrid;
@@ -23,7 +23,7 @@ pub fn check_lawful<G: PriceGrid>(grid: &G, part: Part, p: u32) -> Result<(), Un
 
 // Whether a phase takes a ticket of this validity.
 fn takes(phase: Phase, validity: Validity) -> bool
-    ensures { result ≡ taken phase validity }
+    ensures { result ≡ takes_validity phase validity }
 {
     match (validity, phase) {
         (_, Phase::Ended) => false,

@@ -1,6 +1,6 @@
 // The checks that every call makes first: room in the report, and well-formed tables.
 ghost use Rattle.std.specs.Prelude.{◌≡◌, ◌≤◌, length};
-ghost use Rattle.trading.specs.Desks.{desk_of, book_of, capacity, counts_fit as fitCounts, queues_fit as fitQueues, well_formed as formed};
+ghost use Rattle.trading.specs.Desks.{desk_of, book_of, capacity, counts_fit, queues_fit, well_formed};
 ghost use Rattle.checks.specs.Ground.{Ground};
 
 use crate::fits::begins_with_queue;
@@ -20,7 +20,7 @@ pub fn capacity_of(state: State, buys: &[Order], sells: &[Order], stops: &[StopO
 
 // Each count is held to the capacity before they are added up.
 fn counts_fit(state: State, buys: &[Order], sells: &[Order], stops: &[StopOrder]) -> bool
-    ensures { result ≡ fitCounts (desk_of state buys.now sells.now stops.now) }
+    ensures { result ≡ counts_fit (desk_of state buys.now sells.now stops.now) }
 {
     let n = capacity_of(state, buys, sells, stops);
     state.buys <= n
@@ -33,7 +33,7 @@ fn queues_fit(state: State, buys: &[Order], sells: &[Order], stops: &[StopOrder]
     requires buys { state.buys ≤ length buys.now }
     requires sells { state.sells ≤ length sells.now }
     requires stops { state.stops ≤ length stops.now }
-    ensures { result ≡ fitQueues (book_of (desk_of state buys.now sells.now stops.now)) }
+    ensures { result ≡ queues_fit (book_of (desk_of state buys.now sells.now stops.now)) }
 {
     begins_with_queue(buys, state.buys, Side::Buy)
         && begins_with_queue(sells, state.sells, Side::Sell)
@@ -43,7 +43,7 @@ fn queues_fit(state: State, buys: &[Order], sells: &[Order], stops: &[StopOrder]
 }
 
 fn well_formed(state: State, buys: &[Order], sells: &[Order], stops: &[StopOrder]) -> bool
-    ensures { result ≡ formed (desk_of state buys.now sells.now stops.now) }
+    ensures { result ≡ well_formed (desk_of state buys.now sells.now stops.now) }
 {
     counts_fit(state, buys, sells, stops) && queues_fit(state, buys, sells, stops)
 }
