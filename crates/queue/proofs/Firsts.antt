@@ -1,8 +1,9 @@
 -- The first record that passes a test.
 use Rattle.std.proofs.Common.{◌≡◌, ℕ, suc, ◌+◌, ◌<◌, ◌≤◌, Bool, true, false, not, List, [], ◌∷◌, length, None, sym, refl, ap, ◌∙◌, subst, inl, inr, one-add, arith}
-use Rattle.std.proofs.lemmas.Bool.{cond-true, cond-false, cases_Bool, not_from_true, not_from_false}
+use Rattle.std.proofs.lemmas.Bool.{cond-true, cond-false, cond_both, cases_Bool, not_from_true, not_from_false, ltb-true, ltb-false}
+use Rattle.std.specs.List.{position}
 use Rattle.trading.specs.Queues.{first_that, without_first, first_changed}
-use Rattle.queue.specs.Places.{first_place, FirstAt}
+use Rattle.queue.specs.Places.{first_place, FirstAt, FirstFound}
 
 module _ {R : Type 0} (passes : R → Bool) where
   -- it is in front
@@ -42,3 +43,7 @@ module _ {R : Type 0} (passes : R → Bool) where
     | inl t ↦ absurd (omega (arith, cond-false (not (passes x)) (1 + first_place passes xs) 0 (not_from_true _ t)))
     | inr f ↦ cond-false _ _ _ f ∙ first_none xs (omega (arith, cond-true (not (passes x)) (1 + first_place passes xs) 0 (not_from_false _ f)))
   ]
+
+  -- the library's search finds it
+  pub position_first : (xs : List R) → FirstFound passes xs (position passes xs)
+  position_first xs = cond_both _ _ _ (FirstFound passes xs) (λ e. first_at xs _ refl (ltb-true _ _ e)) (λ e. first_none xs (ltb-false _ _ e))

@@ -1,5 +1,5 @@
 -- What a queue holds, and what joining and leaving make of it.
-use Rattle.std.specs.Prelude.{◌≡◌, ℕ, ◌+◌, Bool, true, List, length, take, drop}
+use Rattle.std.specs.Prelude.{◌≡◌, ℕ, ◌+◌, Bool, true, List, length, take, drop, slice_set}
 use Rattle.std.specs.List.{remove}
 use Rattle.trading.specs.Queues.{joined, in_order}
 use Rattle.queue.specs.declared.queue.Queue.{Queue}
@@ -31,4 +31,11 @@ pub record Left {R : Type 0} (ahead : R → R → Bool) (i : ℕ) (a b : Queue R
   pub order : in_order ahead (listed a) ≡ true → in_order ahead (listed b) ≡ true
   pub count : b.count + 1 ≡ a.count
   pub beyond : drop a.count b.records.now ≡ drop a.count a.records.now
+  pub kept : Kept a b
+
+-- r has taken the place of the record at i: a became b
+pub record Replaced {R : Type 0} (i : ℕ) (r : R) (a b : Queue R) : Type 0 where
+  pub queue : listed b ≡ slice_set (listed a) i r
+  pub count : b.count ≡ a.count
+  pub beyond : drop b.count b.records.now ≡ drop b.count a.records.now
   pub kept : Kept a b

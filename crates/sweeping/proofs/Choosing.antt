@@ -1,23 +1,43 @@
 -- How a sweep goes on past the orders that sleep.
-use Rattle.std.proofs.Common.{◌≡◌, ℕ, zero, suc, ◌-◌, ◌<◌, ◌≤◌, min, Bool, true, false, eqb, leb, List, [], ◌∷◌, ◌++◌, length, get_or, take, drop, set, sym, refl, ap, ◌∙◌, subst, arith}
-use Rattle.std.specs.List.{remove, AllByRecursion}
+use Rattle.std.proofs.Common.{◌≡◌, ℕ, zero, suc, ◌+◌, ◌-◌, one-add, ◌<◌, ◌≤◌, min, Bool, true, false, not, eqb, leb, List, [], ◌∷◌, ◌++◌, length, get_or, take, drop, set, sym, refl, ap, ◌∙◌, subst, arith}
+use Rattle.std.specs.List.{remove, position, position_or_len, AllByRecursion}
 use Rattle.std.proofs.lemmas.List.{append-nil, set-get_or, set_split, take_all}
-use Rattle.std.proofs.lemmas.Bool.{cond_both, ne_eqb, leb-false}
+use Rattle.std.proofs.lemmas.Bool.{cond_both, ne_eqb, leb-false, not-true, not-false, ltb-true, ltb-false}
 use Rattle.rules.specs.declared.order.Order.{Order}
 use Rattle.trading.specs.declared.sweep.Ending.TheVariants.{Filled, Nobody, Collared}
 use Rattle.trading.specs.Books.{is_day, reduced}
 use Rattle.trading.specs.Sweeps.{within, Swept, stopped, keeping, trading, sweep}
-use Rattle.sweeping.specs.Steps.{blank, trade_with, Met}
+use Rattle.sweeping.specs.Steps.{blank, trade_with, Met, Asleep, FirstDay}
 
-abbrev pub Asleep : Order → Type 0
-Asleep o = is_day o.validity ≡ false
+-- an order that may be met
+abbrev pub awake : Order → Bool
+awake o = is_day o.validity
 
 -- several records stay in front
 abbrev kept : List Order → Swept → Swept
 kept p s = record { trades = s.trades; queue = p ++ s.queue; rest = s.rest; last = s.last; ending = s.ending }
 
-pub all_whole : (P : Order → Type 0) (n : ℕ) (xs : List Order) → length xs ≤ n → AllByRecursion P (take n xs) → AllByRecursion P xs
-all_whole P n xs le h = subst (AllByRecursion P) (take_all n xs le) h
+-- in front of the first day order all sleep, and it is awake
+sleep_before : (os : List Order) → AllByRecursion Asleep (take (position_or_len awake os) os)
+sleep_before [] = tt
+sleep_before (o ∷ os) =
+    cond_both (not (awake o)) (1 + position_or_len awake os) 0 (λ k. AllByRecursion Asleep (take k (o ∷ os)))
+    (λ e. rw one-add (not-true (awake o) e, sleep_before os))
+    (λ e. tt)
+
+awake_there : (os : List Order) → position_or_len awake os < length os → awake (get_or os (position_or_len awake os) blank) ≡ true
+awake_there [] h = absurd (omega arith)
+awake_there (o ∷ os) h =
+    cond_both (not (awake o)) (1 + position_or_len awake os) 0 (λ k. k < length (o ∷ os) → awake (get_or (o ∷ os) k blank) ≡ true)
+    (λ e. rw one-add (λ h. awake_there os (omega arith)))
+    (λ e h. not-false (awake o) e)
+    h
+
+pub first_day_is : (os : List Order) → FirstDay os (position awake os)
+first_day_is os =
+    cond_both _ _ _ (FirstDay os)
+    (λ e. let within = ltb-true _ _ e in (within, sleep_before os, awake_there os within))
+    (λ e. subst (AllByRecursion Asleep) (take_all (position_or_len awake os) os (ltb-false _ _ e)) (sleep_before os))
 
 some_left : (n : ℕ) → 0 < n → eqb n 0 ≡ false
 some_left n h = ne_eqb n 0 (omega arith)

@@ -5,27 +5,30 @@ use Rattle.rules.specs.declared.order.Side.{Side}
 use Rattle.rules.specs.declared.order.Side.TheVariants.{Buy, Sell}
 use Rattle.rules.specs.Candidates.{Grid}
 use Rattle.trading.specs.declared.state.State.{State}
-use Rattle.trading.specs.declared.report.ReportLine.{ReportLine}
 use Rattle.trading.specs.Books.{Book, is_day, with_last, opposite, with_opposite}
 use Rattle.trading.specs.Sweeps.{Swept, sweep, Moved, moved, settled, sweeps}
-use Rattle.trading.specs.Desks.{desk_of, book_of}
-use Rattle.trading.specs.Moves.{Came, Ready}
+use Rattle.trading.specs.Desks.{Desk, desk_of, book_of}
+use Rattle.trading.specs.Moves.{Ready}
+use Rattle.queue.specs.declared.queue.Queue.{Queue}
+use Rattle.queue.specs.Lent.{listed}
+use Rattle.lent.specs.Contents.{Page}
+use Rattle.lent.specs.Moves.{Comes}
 use Rattle.sweeping.specs.declared.tables.AfterSweep.{AfterSweep}
 use Rattle.sweeping.specs.declared.orders.Unsettled.{Unsettled}
 use Rattle.sweeping.specs.Steps.{QueueSwept}
-use Rattle.sweeping.specs.Beside.{venue, Roomy, CameBeside, SweptBeside, swept_in, unsettled}
+use Rattle.sweeping.specs.Beside.{venue, Roomy, Moves, SweptBy, swept_in, unsettled}
 use Rattle.sweeping.proofs.Turns.{past_later}
 use Rattle.sweeping.proofs.Following.{came_after}
 
 -- the state once the sells, or the buys, have been swept
-abbrev pub sells_swept : State → AfterSweep → State
-sells_swept s r = record { phase = s.phase; buys = s.buys; sells = r.count; stops = s.stops; static_price = s.static_price; last = r.last }
+abbrev pub sells_swept : State → ℕ → ℕ → State
+sells_swept s count last = record { phase = s.phase; buys = s.buys; sells = count; stops = s.stops; static_price = s.static_price; last = last }
 
-abbrev pub buys_swept : State → AfterSweep → State
-buys_swept s r = record { phase = s.phase; buys = r.count; sells = s.sells; stops = s.stops; static_price = s.static_price; last = r.last }
+abbrev pub buys_swept : State → ℕ → ℕ → State
+buys_swept s count last = record { phase = s.phase; buys = count; sells = s.sells; stops = s.stops; static_price = s.static_price; last = last }
 
 abbrev pub left_of : AfterSweep → Unsettled
-left_of r = record { rest = r.rest; ending = r.ending; at = r.at }
+left_of r = record { rest = r.rest; ending = r.ending }
 
 module _ (allows : ℕ → ℕ → ℕ → Bool) (t : Order) where
   -- the sweep and its book, by side
@@ -35,60 +38,62 @@ module _ (allows : ℕ → ℕ → ℕ → Bool) (t : Order) where
   abbrev unsettled_as : Side → Book → Swept → Moved
   unsettled_as side b x = moved (with_last x.last (with_opposite side x.queue b)) x.trades
 
-  module _ (s : State) (report report' : List ReportLine) (at : ℕ) (r : AfterSweep) where
-    pub swept_sells : (buys sells sells' : List Order) → t.side ≡ Buy → length sells' ≡ length sells
-        → QueueSwept (sweep (allows s.static_price) t t.«open» s.last (take s.sells sells)) at report report' (take r.count sells') r
-        → drop s.sells sells' ≡ drop s.sells sells → r.count ≤ s.sells → r.at ≤ at + s.sells
-        → SweptBeside allows t s buys sells report at (sells_swept s r) buys sells' report' (left_of r)
-    swept_sells buys sells sells' side long q beyond fall few = record {
-      came = record {
-        came = λ stops n room from ready.
-            let d = desk_of s buys sells stops in
-            let d' = desk_of (sells_swept s r) buys sells' stops in
-            let b = book_of d in
-            let is = ap (λ side. unsettled_as side b (swept_as side b)) side in
-            subst (λ m. Came n m d report at d' report' r.at) (sym is) (record {
-              book = ap (λ os. with_last r.last (with_opposite Buy os b)) q.queue ∙ ap (λ l. with_last l (with_opposite Buy (swept_as Buy b).queue b)) q.last;
-              counts = record { buys = omega (arith, ready.buys, ready.records); sells = omega (arith, ready.sells, ready.records); stops = omega (arith, ready.stops, ready.records) };
-              lines = q.lines;
-              place = q.place;
-              beyond = record { buys_length = refl; sells_length = long; stops_length = refl; buys = refl; sells = past_later sells' sells s.sells n (omega (arith, ready.records)) beyond; stops = refl };
+  module _ (d : Desk) (a q : Queue Order) (p p' : Page) (r : AfterSweep) where
+    pub swept_sells : (sells' : List Order) → sells' ≡ q.records.now → t.side ≡ Buy → a.records.now ≡ d.sells → a.count ≡ d.state.sells → length q.records.now ≡ length a.records.now
+        → QueueSwept (sweep (allows d.state.static_price) t t.«open» d.state.last (listed a)) a p q p' r
+        → SweptBy allows t d p (desk_of (sells_swept d.state q.count r.last) d.buys sells' d.stops) p' (left_of r)
+    swept_sells sells' back side table count long x =
+        let b = book_of d in
+        let w = swept_as Buy b in
+        let same : sweep (allows d.state.static_price) t t.«open» d.state.last (listed a) ≡ w = ap (λ os. sweep (allows d.state.static_price) t t.«open» d.state.last os) (ap (take a.count) table ∙ ap (λ n. take n d.sells) count) in
+        let y = subst (λ s. QueueSwept s a p q p' r) same x in
+        let is = ap (λ side. unsettled_as side b (swept_as side b)) side in
+        record {
+          moves = record {
+            came = λ n room from ready. subst (λ m. Comes n m d p (desk_of (sells_swept d.state q.count r.last) d.buys sells' d.stops) p') (sym is) (record {
+              book = ap (λ os. with_last r.last (with_opposite Buy os b)) (ap (take q.count) back ∙ y.queue) ∙ ap (λ l. with_last l (with_opposite Buy w.queue b)) y.last;
+              counts = record { buys = omega (arith, ready.buys, ready.records); sells = subst (λ os. q.count ≤ length os) (sym back) q.within; stops = omega (arith, ready.stops, ready.records) };
+              lines = y.lines;
+              place = y.place;
+              beyond = record { buys_length = refl; sells_length = ap length back ∙ long ∙ ap length table; stops_length = refl; buys = refl; sells = ap (drop n) back ∙ past_later q.records.now a.records.now a.count n (omega (arith, count, ready.records)) y.beyond ∙ ap (drop n) table; stops = refl };
             });
-      };
-      rest = λ stops. q.rest ∙ sym (ap (λ side. (swept_as side (book_of (desk_of s buys sells stops))).rest) side);
-      ending = λ stops. q.ending ∙ sym (ap (λ side. (swept_as side (book_of (desk_of s buys sells stops))).ending) side);
-      few = omega arith;
-      buys_fall = omega arith;
-      sells_fall = fall;
-      stops_stay = refl;
-    }
+            stops = refl;
+          };
+          rest = y.rest ∙ sym (ap (λ side. (swept_as side b).rest) side);
+          ending = y.ending ∙ sym (ap (λ side. (swept_as side b).ending) side);
+          few = omega (arith, y.few, count);
+          buys_fall = omega arith;
+          sells_fall = omega (arith, y.count, count);
+          stops_stay = refl;
+        }
 
-    pub swept_buys : (buys buys' sells : List Order) → t.side ≡ Sell → length buys' ≡ length buys
-        → QueueSwept (sweep (allows s.static_price) t t.«open» s.last (take s.buys buys)) at report report' (take r.count buys') r
-        → drop s.buys buys' ≡ drop s.buys buys → r.count ≤ s.buys → r.at ≤ at + s.buys
-        → SweptBeside allows t s buys sells report at (buys_swept s r) buys' sells report' (left_of r)
-    swept_buys buys buys' sells side long q beyond fall few = record {
-      came = record {
-        came = λ stops n room from ready.
-            let d = desk_of s buys sells stops in
-            let d' = desk_of (buys_swept s r) buys' sells stops in
-            let b = book_of d in
-            let is = ap (λ side. unsettled_as side b (swept_as side b)) side in
-            subst (λ m. Came n m d report at d' report' r.at) (sym is) (record {
-              book = ap (λ os. with_last r.last (with_opposite Sell os b)) q.queue ∙ ap (λ l. with_last l (with_opposite Sell (swept_as Sell b).queue b)) q.last;
-              counts = record { buys = omega (arith, ready.buys, ready.records); sells = omega (arith, ready.sells, ready.records); stops = omega (arith, ready.stops, ready.records) };
-              lines = q.lines;
-              place = q.place;
-              beyond = record { buys_length = long; sells_length = refl; stops_length = refl; buys = past_later buys' buys s.buys n (omega (arith, ready.records)) beyond; sells = refl; stops = refl };
+    pub swept_buys : (buys' : List Order) → buys' ≡ q.records.now → t.side ≡ Sell → a.records.now ≡ d.buys → a.count ≡ d.state.buys → length q.records.now ≡ length a.records.now
+        → QueueSwept (sweep (allows d.state.static_price) t t.«open» d.state.last (listed a)) a p q p' r
+        → SweptBy allows t d p (desk_of (buys_swept d.state q.count r.last) buys' d.sells d.stops) p' (left_of r)
+    swept_buys buys' back side table count long x =
+        let b = book_of d in
+        let w = swept_as Sell b in
+        let same : sweep (allows d.state.static_price) t t.«open» d.state.last (listed a) ≡ w = ap (λ os. sweep (allows d.state.static_price) t t.«open» d.state.last os) (ap (take a.count) table ∙ ap (λ n. take n d.buys) count) in
+        let y = subst (λ s. QueueSwept s a p q p' r) same x in
+        let is = ap (λ side. unsettled_as side b (swept_as side b)) side in
+        record {
+          moves = record {
+            came = λ n room from ready. subst (λ m. Comes n m d p (desk_of (buys_swept d.state q.count r.last) buys' d.sells d.stops) p') (sym is) (record {
+              book = ap (λ os. with_last r.last (with_opposite Sell os b)) (ap (take q.count) back ∙ y.queue) ∙ ap (λ l. with_last l (with_opposite Sell w.queue b)) y.last;
+              counts = record { sells = omega (arith, ready.sells, ready.records); buys = subst (λ os. q.count ≤ length os) (sym back) q.within; stops = omega (arith, ready.stops, ready.records) };
+              lines = y.lines;
+              place = y.place;
+              beyond = record { sells_length = refl; buys_length = ap length back ∙ long ∙ ap length table; stops_length = refl; sells = refl; buys = ap (drop n) back ∙ past_later q.records.now a.records.now a.count n (omega (arith, count, ready.records)) y.beyond ∙ ap (drop n) table; stops = refl };
             });
-      };
-      rest = λ stops. q.rest ∙ sym (ap (λ side. (swept_as side (book_of (desk_of s buys sells stops))).rest) side);
-      ending = λ stops. q.ending ∙ sym (ap (λ side. (swept_as side (book_of (desk_of s buys sells stops))).ending) side);
-      few = omega arith;
-      buys_fall = fall;
-      sells_fall = omega arith;
-      stops_stay = refl;
-    }
+            stops = refl;
+          };
+          rest = y.rest ∙ sym (ap (λ side. (swept_as side b).rest) side);
+          ending = y.ending ∙ sym (ap (λ side. (swept_as side b).ending) side);
+          few = omega (arith, y.few, count);
+          sells_fall = omega arith;
+          buys_fall = omega (arith, y.count, count);
+          stops_stay = refl;
+        }
 
 -- ---- a sweep, and then its rest settled
 
@@ -98,27 +103,25 @@ settled_same t b b' r s x y z =
     ∙ ap (λ q. settled (is_day t.validity) t b' q r.ending) y
     ∙ ap (settled (is_day t.validity) t b' s.rest) z
 
-pub swept_settled : (g : Grid) (allows : ℕ → ℕ → ℕ → Bool) (t : Order) (s s' s'' : State) (buys buys' buys'' sells sells' sells'' : List Order) (report report' report'' : List ReportLine) (at end : ℕ) (r : Unsettled)
-    → Roomy s buys sells (length report) at → length buys' ≡ length buys → length sells' ≡ length sells
-    → SweptBeside allows t s buys sells report at s' buys' sells' report' r
-    → CameBeside (λ b. settled (is_day t.validity) t b r.rest r.ending) s' buys' sells' report' r.at s'' buys'' sells'' report'' end
-    → CameBeside (sweeps (venue g allows) t) s buys sells report at s'' buys'' sells'' report'' end
+pub swept_settled : (g : Grid) (allows : ℕ → ℕ → ℕ → Bool) (t : Order) (d d' d'' : Desk) (p p' p'' : Page) (r : Unsettled)
+    → Roomy d p → length d'.buys ≡ length d.buys → length d'.sells ≡ length d.sells
+    → SweptBy allows t d p d' p' r
+    → Moves (λ b. settled (is_day t.validity) t b r.rest r.ending) d' p' d'' p''
+    → Moves (sweeps (venue g allows) t) d p d'' p''
 unfolding sweeps
-swept_settled g allows t s s' s'' buys buys' buys'' sells sells' sells'' report report' report'' at end r roomy long-buys long-sells x y = record {
-  came = λ stops n room from ready.
-      let d = desk_of s buys sells stops in
-      let d' = desk_of s' buys' sells' stops in
-      let d'' = desk_of s'' buys'' sells'' stops in
+swept_settled g allows t d d' d'' p p' p'' r roomy long-buys long-sells x y = record {
+  came = λ n room from ready.
       let w = swept_in allows t (book_of d) in
       let m = unsettled t (book_of d) w in
-      let first : Came n m d report at d' report' r.at = x.came.came stops n room from ready in
+      let first : Comes n m d p d' p' = x.moves.came n room from ready in
       let again : Ready n d' n 0 1 = record {
         buys = omega (arith, ready.buys);
         sells = omega (arith, ready.sells);
-        stops = ready.stops;
+        stops = omega (arith, ready.stops, ap length x.moves.stops);
         records = omega (arith, ready.records, x.buys_fall, x.sells_fall, x.stops_stay);
         lines = omega (arith, ready.records, x.buys_fall, x.sells_fall, x.stops_stay);
       } in
-      let second = subst (λ m'. Came n m' d' report' r.at d'' report'' end) (settled_same t (book_of d') m.book r w first.book (x.rest stops) (x.ending stops)) (y.came stops n n 0 again) in
-      came_after n m _ d d' d'' report report' report'' at r.at end (omega (arith, first.place, x.few, roomy.lines)) first second;
+      let second = subst (λ m'. Comes n m' d' p' d'' p'') (settled_same t (book_of d') m.book r w first.book x.rest x.ending) (y.came n n 0 again) in
+      came_after n m _ d d' d'' p.lines p'.lines p''.lines p.written p'.written p''.written (omega (arith, first.place, x.few, roomy.lines)) first second;
+  stops = y.stops ∙ x.moves.stops;
 }

@@ -6,14 +6,14 @@ use Rattle.trading.specs.declared.state.Phase.{Phase}
 use Rattle.trading.specs.declared.state.Phase.TheVariants.{Call}
 use Rattle.trading.specs.declared.sweep.Ending.{Ending}
 use Rattle.trading.specs.declared.sweep.Ending.TheVariants.{Filled, Nobody, Collared}
-use Rattle.trading.specs.declared.report.ReportLine.{ReportLine}
 use Rattle.trading.specs.declared.report.ReportLine.TheVariants.{Lapse}
 use Rattle.trading.specs.Books.{Book, is_day, with_phase, with_open}
 use Rattle.trading.specs.Sweeps.{Moved, moved, join, settled}
-use Rattle.trading.specs.Desks.{desk_of, book_of}
-use Rattle.trading.specs.Moves.{Came}
+use Rattle.trading.specs.Desks.{Desk, desk_of, book_of}
+use Rattle.lent.specs.Contents.{Page}
+use Rattle.lent.specs.Moves.{Comes}
 use Rattle.sweeping.specs.declared.orders.Unsettled.{Unsettled}
-use Rattle.sweeping.specs.Beside.{CameBeside}
+use Rattle.sweeping.specs.Beside.{Moves}
 use Rattle.sweeping.proofs.Following.{written_one, came_none, ready_fits}
 
 lapses : (t : Order) (b : Book) (rest : ℕ) (e : Ending) → (e ≡ Filled → ⊥) → settled false t b rest e ≡ moved b (Lapse t.number rest ∷ [])
@@ -24,56 +24,54 @@ lapses t b rest Collared unfilled = refl
 abbrev pub in_phase : Phase → State → State
 in_phase p s = record { phase = p; buys = s.buys; sells = s.sells; stops = s.stops; static_price = s.static_price; last = s.last }
 
-module _ (t : Order) (r : Unsettled) (s : State) (buys sells : List Order) (report : List ReportLine) where
+module _ (t : Order) (r : Unsettled) (d : Desk) (p : Page) where
   abbrev move : Book → Moved
   move b = settled (is_day t.validity) t b r.rest r.ending
 
-  pub settled_filled : r.ending ≡ Filled → CameBeside move s buys sells report r.at s buys sells report r.at
+  pub settled_filled : r.ending ≡ Filled → Moves move d p d p
   settled_filled e = record {
-    came = λ stops n room from ready.
-        let d = desk_of s buys sells stops in
-        subst (λ m. Came n m d report r.at d report r.at) (sym (ap (settled (is_day t.validity) t (book_of d) r.rest) e)) (came_none n d report r.at (ready_fits n d room from 1 ready));
+    came = λ n room from ready.
+        subst (λ m. Comes n m d p d p) (sym (ap (settled (is_day t.validity) t (book_of d) r.rest) e)) (came_none n d p.lines p.written (ready_fits n d room from 1 ready));
+    stops = refl;
   }
 
-  pub settled_lapsed : (report' : List ReportLine) (end : ℕ) → is_day t.validity ≡ false → (r.ending ≡ Filled → ⊥) → r.at < length report
-      → report' ≡ set report r.at (Lapse t.number r.rest) → end ≡ r.at + 1
-      → CameBeside move s buys sells report r.at s buys sells report' end
-  settled_lapsed report' end day unfilled lt line-is next = record {
-    came = λ stops n room from ready.
-        let d = desk_of s buys sells stops in
+  pub settled_lapsed : (p' : Page) → is_day t.validity ≡ false → (r.ending ≡ Filled → ⊥) → p.written < length p.lines
+      → p'.lines ≡ set p.lines p.written (Lapse t.number r.rest) → p'.written ≡ p.written + 1
+      → Moves move d p d p'
+  settled_lapsed p' day unfilled lt line-is next = record {
+    came = λ n room from ready.
         let line = Lapse t.number r.rest in
         let is : move (book_of d) ≡ moved (book_of d) (line ∷ []) = ap (λ day. settled day t (book_of d) r.rest r.ending) day ∙ lapses t (book_of d) r.rest r.ending unfilled in
-        subst (λ m. Came n m d report r.at d report' end) (sym is) (record {
+        subst (λ m. Comes n m d p d p') (sym is) (record {
           book = refl;
           counts = ready_fits n d room from 1 ready;
-          lines = line-is ∙ written_one report r.at line lt;
+          lines = line-is ∙ written_one p.lines p.written line lt;
           place = next;
           beyond = record { buys_length = refl; sells_length = refl; stops_length = refl; buys = refl; sells = refl; stops = refl };
         });
+    stops = refl;
   }
 
-  module _ (s' : State) (buys' sells' : List Order) (day : is_day t.validity ≡ true) (h : CameBeside (λ b. moved (join (with_open t r.rest) b) []) s buys sells report r.at s' buys' sells' report r.at) where
-    pub settled_joined : r.ending ≡ Nobody → CameBeside move s buys sells report r.at s' buys' sells' report r.at
+  module _ (d' : Desk) (day : is_day t.validity ≡ true) (h : Moves (λ b. moved (join (with_open t r.rest) b) []) d p d' p) where
+    pub settled_joined : r.ending ≡ Nobody → Moves move d p d' p
     settled_joined e = record {
-      came = λ stops n room from ready.
-          let d = desk_of s buys sells stops in
-          let d' = desk_of s' buys' sells' stops in
+      came = λ n room from ready.
           let is : move (book_of d) ≡ settled true t (book_of d) r.rest Nobody = ap (λ day. settled day t (book_of d) r.rest r.ending) day ∙ ap (settled true t (book_of d) r.rest) e in
-          subst (λ m. Came n m d report r.at d' report r.at) (sym is) (h.came stops n room from ready);
+          subst (λ m. Comes n m d p d' p) (sym is) (h.came n room from ready);
+      stops = h.stops;
     }
 
-    pub settled_called : r.ending ≡ Collared → CameBeside move s buys sells report r.at (in_phase Call s') buys' sells' report r.at
+    pub settled_called : r.ending ≡ Collared → Moves move d p (desk_of (in_phase Call d'.state) d'.buys d'.sells d'.stops) p
     settled_called e = record {
-      came = λ stops n room from ready.
-          let d = desk_of s buys sells stops in
-          let d' = desk_of (in_phase Call s') buys' sells' stops in
-          let c = h.came stops n room from ready in
+      came = λ n room from ready.
+          let c = h.came n room from ready in
           let is : move (book_of d) ≡ settled true t (book_of d) r.rest Collared = ap (λ day. settled day t (book_of d) r.rest r.ending) day ∙ ap (settled true t (book_of d) r.rest) e in
-          subst (λ m. Came n m d report r.at d' report r.at) (sym is) (record {
+          subst (λ m. Comes n m d p (desk_of (in_phase Call d'.state) d'.buys d'.sells d'.stops) p) (sym is) (record {
             book = ap (with_phase Call) c.book;
             counts = record { buys = c.counts.buys; sells = c.counts.sells; stops = c.counts.stops };
             lines = c.lines;
             place = c.place;
             beyond = record { buys_length = c.beyond.buys_length; sells_length = c.beyond.sells_length; stops_length = c.beyond.stops_length; buys = c.beyond.buys; sells = c.beyond.sells; stops = c.beyond.stops };
           });
+      stops = h.stops;
     }

@@ -1,45 +1,64 @@
 -- One turn of the loop of a sweep, and its end.
-use Rattle.std.proofs.Common.{◌≡◌, ℕ, suc, ◌+◌, ◌-◌, ◌≤◌, min, Bool, List, [], ◌∷◌, length, get_or, take, drop, set, sym, ap, ◌∙◌, add-one, arith}
+use Rattle.std.proofs.Common.{◌≡◌, ℕ, suc, ◌+◌, ◌-◌, ◌<◌, ◌≤◌, min, Bool, List, [], ◌∷◌, length, get_or, take, drop, sym, ap, ◌∙◌, add-one, arith}
 use lib.Seq.{sets, sets-eq}
-use Rattle.std.proofs.lemmas.List.{append_assoc, drop-drop}
+use Rattle.std.proofs.lemmas.List.{append_assoc, drop-drop, length-take-le, length-set}
 use Rattle.rules.specs.declared.order.Order.{Order}
 use Rattle.trading.specs.declared.report.ReportLine.{ReportLine}
 use Rattle.trading.specs.declared.sweep.Ending.{Ending}
 use Rattle.trading.specs.Sweeps.{Swept, stopped, sweep}
 use Rattle.trading.specs.Moves.{written_at}
 use Rattle.sessions.proofs.Sweeping.{sweep_by}
+use Rattle.queue.specs.declared.queue.Queue.{Queue}
+use Rattle.queue.specs.Lent.{listed, Kept}
+use Rattle.lent.specs.Contents.{Page}
+use Rattle.sweeping.specs.declared.trade.AfterTrade.{AfterTrade}
 use Rattle.sweeping.specs.declared.tables.AfterSweep.{AfterSweep}
-use Rattle.sweeping.specs.Steps.{blank, traded, trade_with, Met, QueueSwept}
+use Rattle.sweeping.specs.Steps.{blank, trade_with, Met, TradedAt, QueueSwept}
 
--- where a sweep leads, with its report
+-- where a sweep leads, with its page
 pub record Finish : Type 0 where
   pub queue : List Order
   pub rest : ℕ
   pub last : ℕ
   pub ending : Ending
-  pub report : List ReportLine
-  pub at : ℕ
+  pub page : Page
 
 -- the place after lines that are written from a place on
 abbrev place_after : ℕ → List ReportLine → ℕ
 place_after i [] = i
 place_after i (y ∷ ys) = place_after (suc i) ys
 
-abbrev pub finish : List ReportLine → ℕ → Swept → Finish
-finish report from s = record { queue = s.queue; rest = s.rest; last = s.last; ending = s.ending; report = sets report from s.trades; at = place_after from s.trades }
+abbrev pub finish : Page → Swept → Finish
+finish p s = record { queue = s.queue; rest = s.rest; last = s.last; ending = s.ending; page = record { lines = sets p.lines p.written s.trades; written = place_after p.written s.trades } }
 
--- what is left after a trade leads where all of it led
-pub turn : (allows : ℕ → ℕ → Bool) (t : Order) (rest last : ℕ) (os : List Order) (i : ℕ) (report : List ReportLine) (at : ℕ) → Met allows t rest last os i
-    → (rest' last' : ℕ) (os' : List Order) (report' : List ReportLine)
-    → os' ≡ traded rest os i → rest' ≡ rest - (get_or os i blank).«open» → last' ≡ (get_or os i blank).limit → report' ≡ set report at (trade_with t (get_or os i blank) (min rest (get_or os i blank).«open»))
-    → finish report' (at + 1) (sweep allows t rest' last' os') ≡ finish report at (sweep allows t rest last os)
-turn allows t rest last os i report at met rest' last' os' report' line r l w = rw (line, r, l, w, add-one) (sym (ap (finish report at) met))
+-- a sweep of the queue a is under way: what is still to come, from the queue b on, leads where all of it leads
+pub record Along (allows : ℕ → ℕ → Bool) (t : Order) (price : ℕ) (a : Queue Order) (p : Page) (rest last : ℕ) (b : Queue Order) (p' : Page) : Type 0 where
+  pub leads : finish p' (sweep allows t rest last (listed b)) ≡ finish p (sweep allows t t.«open» price (listed a))
+  pub beyond : drop a.count b.records.now ≡ drop a.count a.records.now
+  pub count : b.count ≤ a.count
+  pub room : 0 < rest → p'.written + b.count ≤ length p'.lines
+  pub table : Kept a b
 
 -- what lies past a place lies past a later one
 pub past_later : {X : Type 0} (xs ys : List X) (m n : ℕ) → m ≤ n → drop m xs ≡ drop m ys → drop n xs ≡ drop n ys
 past_later xs ys m n le e =
     let k : m + (n - m) ≡ n = omega arith in
     ap (λ j. drop j xs) (sym k) ∙ sym (drop-drop (n - m) m xs) ∙ ap (drop (n - m)) e ∙ drop-drop (n - m) m ys ∙ ap (λ j. drop j ys) k
+
+-- one trade more
+pub turn : (allows : ℕ → ℕ → Bool) (t : Order) (price : ℕ) (a b b' : Queue Order) (p p' p'' : Page) (rest last i : ℕ) (r : AfterTrade)
+    → 0 < rest → Met allows t rest last (listed b) i → TradedAt t rest i b p' b' p'' r → Kept b b'
+    → Along allows t price a p rest last b p' → Along allows t price a p r.rest r.last b' p''
+turn allows t price a b b' p p' p'' rest last i r some met x kept along =
+    let o = get_or (listed b) i blank in
+    let same = length-set p'.lines p'.written (trade_with t o (min rest o.«open»)) in
+    record {
+  leads = rw (x.line, x.place, x.rest, x.last, x.queue, add-one) (sym (ap (finish p') met)) ∙ along.leads;
+  beyond = past_later b'.records.now b.records.now b.count a.count along.count x.beyond ∙ along.beyond;
+  count = omega (arith, x.count, along.count);
+  room = λ left. omega (arith, x.gone left, x.place, along.room some, ap length x.line, same);
+  table = record { room = kept.room ∙ along.table.room; lender = kept.lender ∙ along.table.lender };
+}
 
 -- at most one trade with each order
 pub trades_fit : (allows : ℕ → ℕ → Bool) (t : Order) (rest last : ℕ) (os : List Order) → length (sweep allows t rest last os).trades ≤ length os
@@ -61,19 +80,24 @@ sets_written : (report lines : List ReportLine) (at : ℕ) → at + length lines
 sets_written report lines at h = sets-eq lines report at h ∙ append_assoc (take at report) lines (drop (at + length lines) report)
 
 -- where nothing is left to do, the sweep has come about
-pub finished : (allows : ℕ → ℕ → Bool) (t : Order) (quantity price : ℕ) (queue : List Order) (from : ℕ) (report : List ReportLine) (r : AfterSweep) (os : List Order) (report' : List ReportLine)
-    → from + length queue ≤ length report → sweep allows t r.rest r.last os ≡ stopped os r.rest r.last r.ending
-    → finish report' r.at (sweep allows t r.rest r.last os) ≡ finish report from (sweep allows t quantity price queue)
-    → QueueSwept (sweep allows t quantity price queue) from report report' os r
-finished allows t quantity price queue from report r os report' room stop inv =
-    let s = sweep allows t quantity price queue in
-    let e : finish report' r.at (stopped os r.rest r.last r.ending) ≡ finish report from s = sym (ap (finish report' r.at) stop) ∙ inv in
-    let few : length s.trades ≤ length queue = trades_fit allows t quantity price queue in
+pub finished : (allows : ℕ → ℕ → Bool) (t : Order) (price : ℕ) (a b : Queue Order) (p p' : Page) (r : AfterSweep)
+    → p.written + a.count ≤ length p.lines → a.count ≤ length a.records.now → sweep allows t r.rest r.last (listed b) ≡ stopped (listed b) r.rest r.last r.ending
+    → Along allows t price a p r.rest r.last b p'
+    → QueueSwept (sweep allows t t.«open» price (listed a)) a p b p' r
+finished allows t price a b p p' r room inside stop along =
+    let s = sweep allows t t.«open» price (listed a) in
+    let e : finish p' (stopped (listed b) r.rest r.last r.ending) ≡ finish p s = sym (ap (finish p') stop) ∙ along.leads in
+    let few : length s.trades ≤ length (listed a) = trades_fit allows t t.«open» price (listed a) in
+    let place = ap (λ f. f.page.written) e ∙ place_after_is p.written s.trades in
+    let long = length-take-le a.count a.records.now inside in
     record {
       queue = ap (λ f. f.queue) e;
       rest = ap (λ f. f.rest) e;
       last = ap (λ f. f.last) e;
       ending = ap (λ f. f.ending) e;
-      lines = ap (λ f. f.report) e ∙ sets_written report s.trades from (omega arith);
-      place = ap (λ f. f.at) e ∙ place_after_is from s.trades;
+      lines = ap (λ f. f.page.lines) e ∙ sets_written p.lines s.trades p.written (omega arith);
+      place = place;
+      beyond = along.beyond;
+      count = along.count;
+      few = omega arith;
     }

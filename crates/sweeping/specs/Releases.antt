@@ -5,12 +5,13 @@ use Rattle.rules.specs.declared.order.Side.TheVariants.{Buy}
 use Rattle.rules.specs.Candidates.{Grid}
 use Rattle.trading.specs.declared.stop.StopOrder.{StopOrder}
 use Rattle.trading.specs.declared.state.Phase.{Phase}
-use Rattle.trading.specs.declared.report.ReportLine.{ReportLine}
 use Rattle.trading.specs.Queues.{first_that}
 use Rattle.trading.specs.Books.{Book, is_continuous, with_stops}
 use Rattle.trading.specs.Sweeps.{Moved, sweeps, reached, as_day_order, only_if}
 use Rattle.trading.specs.Desks.{Desk, book_of}
-use Rattle.trading.specs.Moves.{Ready, Came}
+use Rattle.trading.specs.Moves.{Ready}
+use Rattle.lent.specs.Contents.{Page}
+use Rattle.lent.specs.Moves.{Comes}
 use Rattle.queue.specs.Places.{FirstAt}
 use Rattle.sweeping.specs.Beside.{venue}
 
@@ -29,5 +30,5 @@ abbrev pub released_at : Grid → (ℕ → ℕ → ℕ → Bool) → ℕ → Boo
 released_at g allows i b = sweeps (venue g allows) (as_day_order (slice_index_or b.stops i blank_stop)) (with_stops (remove b.stops i) b)
 
 -- the release of the stop at i has come about
-pub record ReleasedAt (allows : ℕ → ℕ → ℕ → Bool) (i : ℕ) (d : Desk) (report : List ReportLine) (at : ℕ) (d' : Desk) (report' : List ReportLine) (end : ℕ) : Type 0 where
-  pub came : (g : Grid) (n room from : ℕ) → Ready n d room from 0 → Came n (released_at g allows i (book_of d)) d report at d' report' end
+pub record ReleasedAt (allows : ℕ → ℕ → ℕ → Bool) (i : ℕ) (d : Desk) (p : Page) (d' : Desk) (p' : Page) : Type 0 where
+  pub came : (g : Grid) (n room from : ℕ) → Ready n d room from 0 → Comes n (released_at g allows i (book_of d)) d p d' p'

@@ -1,15 +1,18 @@
 -- One step of a sweep through a queue, and the sweep of a table with its report.
-use Rattle.std.specs.Prelude.{◌≡◌, ℕ, ◌+◌, ◌-◌, ◌<◌, min, Bool, cond, List, length, get_or, nat_le, slice_index_or, slice_set}
-use Rattle.std.specs.List.{remove}
+use Rattle.std.specs.Prelude.{◌≡◌, ℕ, ◌+◌, ◌-◌, ◌<◌, ◌≤◌, min, Bool, true, false, cond, List, Option, Result, MatchOption, MatchResult, length, get_or, take, drop, nat_le, slice_index_or, slice_set}
+use Rattle.std.specs.List.{remove, AllByRecursion}
 use Rattle.rules.specs.declared.order.Order.{Order}
 use Rattle.rules.specs.declared.order.Side.TheVariants.{Buy}
 use Rattle.rules.specs.declared.order.Validity.TheVariants.{Day}
 use Rattle.trading.specs.declared.report.ReportLine.{ReportLine}
-use Rattle.trading.specs.Books.{reduced}
+use Rattle.trading.specs.declared.sweep.Ending.{Ending}
+use Rattle.trading.specs.Books.{is_day, reduced}
 use Rattle.trading.specs.Sweeps.{Swept, stopped, trading, trade_of, sweep}
 use Rattle.trading.specs.Moves.{written_at}
-use Rattle.sweeping.specs.declared.choose.Choice.{Choice}
-use Rattle.sweeping.specs.declared.choose.Choice.TheVariants.{Stop, Meet}
+use Rattle.queue.specs.declared.queue.Queue.{Queue}
+use Rattle.queue.specs.Lent.{listed}
+use Rattle.lent.specs.Contents.{Page}
+use Rattle.sweeping.specs.declared.trade.AfterTrade.{AfterTrade}
 use Rattle.sweeping.specs.declared.tables.AfterSweep.{AfterSweep}
 
 -- what a list holds past its end
@@ -29,16 +32,42 @@ abbrev pub Met : (ℕ → ℕ → Bool) → Order → ℕ → ℕ → List Order
 Met allows t rest last os i =
     sweep allows t rest last os ≡ trading (trade_with t (slice_index_or os i blank) (min rest (get_or os i blank).«open»)) (sweep allows t (rest - (get_or os i blank).«open») (get_or os i blank).limit (traded rest os i))
 
--- what a choice says of the sweep
-abbrev pub Chosen : (ℕ → ℕ → Bool) → Order → ℕ → ℕ → List Order → Choice → Type 0
-Chosen allows t rest last os (Stop e) = sweep allows t rest last os ≡ stopped os rest last e
-Chosen allows t rest last os (Meet i) = (0 < rest) × (i < length os) × Met allows t rest last os i
+-- what a choice says of the sweep: it goes on with the order at i, or it ends
+abbrev pub Chosen : (ℕ → ℕ → Bool) → Order → ℕ → ℕ → List Order → Result ℕ Ending → Type 0
+Chosen allows t rest last os r =
+    MatchResult r (λ i. (0 < rest) × (i < length os) × Met allows t rest last os i) (λ e. sweep allows t rest last os ≡ stopped os rest last e)
 
--- the sweep s has come about: its queue lies in the table, its trades stand in the report from `from` on
-pub record QueueSwept (s : Swept) (from : ℕ) (report report' : List ReportLine) (queue' : List Order) (r : AfterSweep) : Type 0 where
-  pub queue : queue' ≡ s.queue
+-- an order that does not meet others before the next call
+abbrev pub Asleep : Order → Type 0
+Asleep o = is_day o.validity ≡ false
+
+-- where the first day order stands, if there is one
+abbrev pub FirstDay : List Order → Option ℕ → Type 0
+FirstDay os r =
+    MatchOption r (AllByRecursion Asleep os)
+    (λ i. (i < length os) × AllByRecursion Asleep (take i os) × (is_day (slice_index_or os i blank).validity ≡ true))
+
+-- t, with n left of it, has traded with the order at i: the queue a became b, and r tells what is left
+pub record TradedAt (t : Order) (n i : ℕ) (a : Queue Order) (p : Page) (b : Queue Order) (p' : Page) (r : AfterTrade) : Type 0 where
+  pub queue : listed b ≡ traded n (listed a) i
+  pub beyond : drop a.count b.records.now ≡ drop a.count a.records.now
+  pub rest : r.rest ≡ n - (get_or (listed a) i blank).«open»
+  pub last : r.last ≡ (get_or (listed a) i blank).limit
+  pub count : b.count ≤ a.count
+  pub gone : 0 < r.rest → b.count + 1 ≡ a.count
+  pub fewer : r.rest + b.count < n + a.count
+  pub line : p'.lines ≡ slice_set p.lines p.written (trade_with t (slice_index_or (listed a) i blank) (min n (get_or (listed a) i blank).«open»))
+  pub place : p'.written ≡ p.written + 1
+
+-- the sweep s has come about: its queue, which a became, lies in the table, its trades follow the lines of the page, and r tells
+-- the rest
+pub record QueueSwept (s : Swept) (a : Queue Order) (p : Page) (b : Queue Order) (p' : Page) (r : AfterSweep) : Type 0 where
+  pub queue : listed b ≡ s.queue
   pub rest : r.rest ≡ s.rest
   pub last : r.last ≡ s.last
   pub ending : r.ending ≡ s.ending
-  pub lines : report' ≡ written_at report from s.trades
-  pub place : r.at ≡ from + length s.trades
+  pub lines : p'.lines ≡ written_at p.lines p.written s.trades
+  pub place : p'.written ≡ p.written + length s.trades
+  pub beyond : drop a.count b.records.now ≡ drop a.count a.records.now
+  pub count : b.count ≤ a.count
+  pub few : p'.written ≤ p.written + a.count

@@ -9,14 +9,7 @@ use collar::Collar;
 use rules::Order;
 use trading::Ending;
 
-// The sweep stops, or it trades with the order at a place of the queue.
-#[derive(Clone, Copy)]
-pub enum Choice {
-    Stop(Ending),
-    Meet(usize),
-}
-
-// What an order does next, with `rest` of it left.
+// What an order does next, with `rest` of it left: it trades with the order at a place of the queue, or its sweep ends.
 pub fn choose_next<C: Collar>(
     collar: &C,
     static_price: u32,
@@ -24,24 +17,23 @@ pub fn choose_next<C: Collar>(
     rest: u32,
     last: u32,
     queue: &[Order],
-) -> Choice
+) -> Result<usize, Ending>
     ensures { Chosen (C.allows collar.now static_price) order rest last queue.now result }
 {
     if rest == 0 {
-        return Choice::Stop(Ending::Filled);
+        return Err(Ending::Filled);
     }
-    let i = first_day(queue);
-    if i == queue.len() {
-        return Choice::Stop(Ending::Nobody);
-    }
+    let Some(i) = first_day(queue) else {
+        return Err(Ending::Nobody);
+    };
     let price = queue[i].limit;
     if !is_within(order.side, order.limit, price) {
-        return Choice::Stop(Ending::Nobody);
+        return Err(Ending::Nobody);
     }
     if !collar.is_allowed(static_price, last, price) {
-        return Choice::Stop(Ending::Collared);
+        return Err(Ending::Collared);
     }
-    Choice::Meet(i)
+    Ok(i)
 }
 
 // Whether the sweep of an order through a queue would make a trade.
@@ -54,8 +46,5 @@ pub fn meets_someone<C: Collar>(
 ) -> bool
     ensures { result ≡ not (is_empty (sweep (C.allows collar.now static_price) order order.«open» last queue.now).trades) }
 {
-    match choose_next(collar, static_price, order, order.open, last, queue) {
-        Choice::Stop(_) => false,
-        Choice::Meet(_) => true,
-    }
+    choose_next(collar, static_price, order, order.open, last, queue).is_ok()
 }

@@ -1,9 +1,8 @@
 // Whom an order may meet, and the line of their trade.
-ghost use Rattle.std.specs.Prelude.{◌≡◌, ◌<◌, ◌≤◌, true, false, length, take, slice_index_or};
-ghost use Rattle.std.specs.List.{AllByRecursion};
+ghost use Rattle.std.specs.Prelude.{◌≡◌};
 ghost use Rattle.trading.specs.Books.{is_day};
 ghost use Rattle.trading.specs.Sweeps.{within};
-ghost use Rattle.sweeping.specs.Steps.{blank, trade_with};
+ghost use Rattle.sweeping.specs.Steps.{trade_with, FirstDay};
 
 use rules::{Order, Side, Validity};
 use trading::ReportLine;
@@ -21,11 +20,7 @@ pub fn is_within(side: Side, limit: u32, price: u32) -> bool
 pub fn is_day(validity: Validity) -> bool
     ensures { result ≡ is_day validity }
 {
-    match validity {
-        Validity::Day => true,
-        Validity::Ioc => false,
-        Validity::Vfu => false,
-    }
+    matches!(validity, Validity::Day)
 }
 
 // The line of a trade of an order with a resting one, at the limit of the latter.
@@ -48,16 +43,9 @@ pub fn trade_line(order: Order, resting: Order, quantity: u32) -> ReportLine
     }
 }
 
-// The place of the first day order of a queue, or the queue's length: the orders in front of it sleep until the next call.
-pub fn first_day(queue: &[Order]) -> usize
-    ensures inside { result ≤ length queue.now }
-    ensures asleep { AllByRecursion (λ o. is_day o.validity ≡ false) (take result queue.now) }
-    ensures awake { result < length queue.now → is_day (slice_index_or queue.now result blank).validity ≡ true }
+// Where the first day order of a queue stands: the orders in front of it sleep until the next call.
+pub fn first_day(queue: &[Order]) -> Option<usize>
+    ensures { FirstDay queue.now result }
 {
-    for (i, order) in queue.iter().enumerate() {
-        if is_day(order.validity) {
-            return i;
-        }
-    }
-    queue.len()
+    queue.iter().position(|order| is_day(order.validity))
 }

@@ -1,19 +1,21 @@
 // The release of stops.
 ghost use Rattle.std.specs.Prelude.{◌≡◌, ◌<◌, ◌≤◌, length, take};
 ghost use Rattle.rules.specs.Candidates.{Grid};
-ghost use Rattle.trading.specs.Sweeps.{reached, as_day_order, release_all};
-ghost use Rattle.trading.specs.Desks.{desk_of, book_of, capacity};
-ghost use Rattle.trading.specs.Moves.{Ready, Came};
+ghost use Rattle.lent.specs.Contents.{contents, page, Kept};
+ghost use Rattle.trading.specs.Sweeps.{reached, release_all};
+ghost use Rattle.trading.specs.Desks.{book_of, capacity};
 ghost use Rattle.queue.specs.Places.{FirstFound};
+ghost use Rattle.lent.specs.Moves.{ReadyFor, Comes};
 ghost use Rattle.sweeping.specs.Beside.{venue, Roomy};
 ghost use Rattle.sweeping.specs.Releases.{DueAt, ReleasedAt};
 
 use super::meet::is_within;
 use super::orders::sweep_order;
 use collar::Collar;
+use lent::{Desk, Report};
 use queue::leave_table;
-use rules::{Order, Validity};
-use trading::{Phase, ReportLine, State, StopOrder};
+use rules::Order;
+use trading::{Phase, StopOrder};
 
 // Whether a stop is reached: a buy when the last price is at or above its trigger, a sell when it is at or below.
 pub fn is_reached(stop: StopOrder, last: u32) -> bool
@@ -26,84 +28,43 @@ pub fn is_reached(stop: StopOrder, last: u32) -> bool
 pub fn first_reached(stops: &[StopOrder], last: u32) -> Option<usize>
     ensures { FirstFound (reached last) stops.now result }
 {
-    for (i, stop) in stops.iter().enumerate() {
-        if is_reached(*stop, last) {
-            return Some(i);
-        }
-    }
-    None
+    stops.iter().position(|stop| is_reached(*stop, last))
 }
 
 // Where the stop that is due stands: the first reached one, in continuous trading.
-pub fn find_due(state: State, stops: &[StopOrder]) -> Option<usize>
-    requires { state.stops ≤ length stops.now }
-    ensures { DueAt state.phase state.last (take state.stops stops.now) result }
+pub fn find_due(desk: &Desk<'_>) -> Option<usize>
+    requires { desk.now.state.now.stops ≤ length desk.now.stops.now }
+    ensures { DueAt desk.now.state.now.phase desk.now.state.now.last (take desk.now.state.now.stops desk.now.stops.now) result }
 {
-    let count = state.stops;
-    match state.phase {
+    match desk.state.phase {
         Phase::Call => None,
-        Phase::Continuous => first_reached(&stops[0..count], state.last),
+        Phase::Continuous => first_reached(&desk.stops[0..desk.state.stops], desk.state.last),
         Phase::Ended => None,
     }
 }
 
-// The day order as which a stop sweeps.
-pub fn as_day_order(stop: StopOrder) -> Order
-    ensures { result ≡ as_day_order stop }
+// The stop at `i` leaves its queue, and sweeps as a day order.
+pub fn release_at<C: Collar>(collar: &C, desk: &mut Desk<'_>, report: &mut Report<'_>, i: usize)
+    requires roomy { Roomy (contents desk.old) (page report.old) }
+    requires held { i < desk.old.state.now.stops }
+    requires inside { desk.old.state.now.stops ≤ length desk.old.stops.now }
+    ensures released { ReleasedAt (C.allows collar.now) i (contents desk.old) (page report.old) (contents desk.new) (page report.new) }
+    ensures kept { Kept desk.old report.old desk.new report.new }
 {
-    Order {
-        number: stop.number,
-        side: stop.side,
-        limit: stop.limit,
-        open: stop.quantity,
-        validity: Validity::Day,
-    }
+    let stop = desk.stops[i];
+    leave_table(desk.stops, desk.state.stops, i);
+    desk.state.stops -= 1;
+    sweep_order(collar, desk, report, Order::from(stop));
 }
 
-// The stop at `i` leaves its queue, and sweeps as a day order. Answers the place after its lines.
-pub fn release_at<C: Collar>(
-    collar: &C,
-    state: &mut State,
-    buys: &mut [Order],
-    sells: &mut [Order],
-    stops: &mut [StopOrder],
-    report: &mut [ReportLine],
-    at: usize,
-    i: usize,
-) -> usize
-    requires roomy { Roomy state.old buys.old sells.old (length report.old) at }
-    requires held { i < state.old.stops }
-    requires inside { state.old.stops ≤ length stops.old }
-    ensures { ReleasedAt (C.allows collar.now) i
-        (desk_of state.old buys.old sells.old stops.old) report.old at
-        (desk_of state.new buys.new sells.new stops.new) report.new result }
+// While a stop is due, it is released.
+pub fn release_stops<C: Collar>(collar: &C, desk: &mut Desk<'_>, report: &mut Report<'_>)
+    requires { ReadyFor 0 (contents desk.old) (page report.old) }
+    ensures released { let d = contents desk.old in
+        ((g : Grid) → Comes (capacity d) (release_all (venue g (C.allows collar.now)) (book_of d)) d (page report.old) (contents desk.new) (page report.new)) }
+    ensures kept { Kept desk.old report.old desk.new report.new }
 {
-    let stop = stops[i];
-    let count = state.stops;
-    leave_table(stops, count, i);
-    state.stops = count - 1;
-    sweep_order(collar, state, buys, sells, report, at, as_day_order(stop))
-}
-
-// While a stop is due, it is released. The lines go to the report, from the place `from` on; answers the place after them.
-pub fn release_stops<C: Collar>(
-    collar: &C,
-    state: &mut State,
-    buys: &mut [Order],
-    sells: &mut [Order],
-    stops: &mut [StopOrder],
-    report: &mut [ReportLine],
-    from: usize,
-) -> usize
-    requires { let d = desk_of state.old buys.old sells.old stops.old in
-        Ready (capacity d) d (length report.old) from 0 }
-    ensures { let d = desk_of state.old buys.old sells.old stops.old in
-        let d' = desk_of state.new buys.new sells.new stops.new in
-        ((g : Grid) → Came (capacity d) (release_all (venue g (C.allows collar.now)) (book_of d)) d report.old from d' report.new result) }
-{
-    let mut at = from;
-    'releases: while let Some(i) = find_due(*state, stops) {
-        at = release_at(collar, state, buys, sells, stops, report, at, i);
+    'releases: while let Some(i) = find_due(desk) {
+        release_at(collar, desk, report, i);
     }
-    at
 }

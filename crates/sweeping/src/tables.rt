@@ -1,64 +1,49 @@
-// The sweep of one table.
-ghost use Rattle.std.specs.Prelude.{◌≡◌, ◌+◌, ◌≤◌, length, take, drop};
+// The sweep of one queue.
+ghost use Rattle.std.specs.Prelude.{◌+◌, ◌≤◌, length};
+ghost use Rattle.queue.specs.Lent.{listed, Kept};
+ghost use Rattle.lent.specs.Contents.{page, ReportKept};
 ghost use Rattle.trading.specs.Sweeps.{sweep};
 ghost use Rattle.sweeping.specs.Steps.{QueueSwept};
 
-use super::choose::{Choice, choose_next};
+use super::choose::choose_next;
 use super::trade::trade_at;
 use collar::Collar;
+use lent::Report;
+use queue::Queue;
 use rules::Order;
-use trading::{Ending, ReportLine};
+use trading::Ending;
 
-// What a sweep leaves: of the order, as the last price, in the queue, and as the place after its lines.
+// What a sweep leaves of an order, how it ended, and the last price after it.
 #[derive(Clone, Copy)]
 pub struct AfterSweep {
     pub rest: u32,
-    pub last: u32,
     pub ending: Ending,
-    pub count: usize,
-    pub at: usize,
+    pub last: u32,
 }
 
-// The order sweeps the first `entered` records of the table, from the last price `price` on. The trades go to the report, from
-// the place `from` on.
+// The order sweeps the queue, from the last price `price` on.
 pub fn sweep_queue<C: Collar>(
     collar: &C,
     static_price: u32,
     order: Order,
     price: u32,
-    table: &mut [Order],
-    entered: usize,
-    report: &mut [ReportLine],
-    from: usize,
+    queue: &mut Queue<'_, Order>,
+    report: &mut Report<'_>,
 ) -> AfterSweep
-    requires inside { entered ≤ length table.old }
-    requires room { from + entered ≤ length report.old }
-    ensures swept { QueueSwept (sweep (C.allows collar.now static_price) order order.«open» price (take entered table.old)) from report.old report.new (take result.count table.new) result }
-    ensures beyond { drop entered table.new ≡ drop entered table.old }
-    ensures count { result.count ≤ entered }
-    ensures few { result.at ≤ from + entered }
+    requires { report.old.written + queue.old.count ≤ length report.old.lines.now }
+    ensures swept { QueueSwept (sweep (C.allows collar.now static_price) order order.«open» price (listed queue.old)) queue.old (page report.old) queue.new (page report.new) result }
+    ensures table { Kept queue.old queue.new }
+    ensures lines { ReportKept report.old report.new }
 {
     let mut rest = order.open;
     let mut last = price;
-    let mut count = entered;
-    let mut at = from;
     'trades: loop {
-        match choose_next(collar, static_price, order, rest, last, &table[0..count]) {
-            Choice::Stop(ending) => {
-                return AfterSweep {
-                    rest,
-                    last,
-                    ending,
-                    count,
-                    at,
-                };
-            }
-            Choice::Meet(i) => {
-                let left = trade_at(order, rest, table, count, i, report, at);
+        match choose_next(collar, static_price, order, rest, last, queue.as_slice()) {
+            Err(ending) => return AfterSweep { rest, ending, last },
+            Ok(i) => {
+                let left = trade_at(order, rest, queue, i, report);
                 rest = left.rest;
                 last = left.last;
-                count = left.count;
-                at += 1;
             }
         }
     }

@@ -1,18 +1,20 @@
 // One trade of a sweep.
-ghost use Rattle.std.specs.Prelude.{◌≡◌, ◌+◌, ◌-◌, ◌<◌, ◌≤◌, min, length, get_or, take, drop, slice_index_or, slice_set};
-ghost use Rattle.sweeping.specs.Steps.{blank, trade_with, traded};
+ghost use Rattle.std.specs.Prelude.{◌<◌, length};
+ghost use Rattle.lent.specs.Contents.{page};
+ghost use Rattle.sweeping.specs.Steps.{TradedAt};
+ghost use Rattle.queue.specs.Lent.{Kept};
+ghost use Rattle.lent.specs.Contents.{ReportKept};
 
 use super::meet::trade_line;
-use queue::leave_table;
+use lent::Report;
+use queue::Queue;
 use rules::Order;
-use trading::ReportLine;
 
-// What one trade leaves: of the order, as the last price, and in the queue.
+// What one trade leaves of an order, and as the last price.
 #[derive(Clone, Copy)]
 pub struct AfterTrade {
     pub rest: u32,
     pub last: u32,
-    pub count: usize,
 }
 
 // The order, with `rest` left of it, trades with the one at `i` of the queue: the smaller quantity, at the limit of the resting
@@ -20,40 +22,34 @@ pub struct AfterTrade {
 pub fn trade_at(
     order: Order,
     rest: u32,
-    table: &mut [Order],
-    count: usize,
+    queue: &mut Queue<'_, Order>,
     i: usize,
-    report: &mut [ReportLine],
-    at: usize,
+    report: &mut Report<'_>,
 ) -> AfterTrade
-    requires inside { count ≤ length table.old }
-    requires held { i < count }
+    requires held { i < queue.old.count }
     requires some { 0 < rest }
-    requires room { at < length report.old }
-    ensures queue { take result.count table.new ≡ traded rest (take count table.old) i }
-    ensures beyond { drop count table.new ≡ drop count table.old }
-    ensures rest { result.rest ≡ rest - (get_or (take count table.old) i blank).«open» }
-    ensures last { result.last ≡ (get_or (take count table.old) i blank).limit }
-    ensures count { result.count ≤ count }
-    ensures gone { 0 < result.rest → result.count + 1 ≡ count }
-    ensures fewer { result.rest + result.count < rest + count }
-    ensures report { report.new ≡ slice_set report.old at (trade_with order (slice_index_or (take count table.old) i blank) (min rest (get_or (take count table.old) i blank).«open»)) }
+    requires room { report.old.written < length report.old.lines.now }
+    ensures traded { TradedAt order rest i queue.old (page report.old) queue.new (page report.new) result }
+    ensures table { Kept queue.old queue.new }
+    ensures lines { ReportKept report.old report.new }
 {
-    let resting = table[i];
-    report[at] = trade_line(order, resting, rest.min(resting.open));
+    let resting = queue.as_slice()[i];
+    report.write(trade_line(order, resting, rest.min(resting.open)));
     if resting.open <= rest {
-        leave_table(table, count, i);
+        queue.leave(i);
         AfterTrade {
             rest: rest - resting.open,
             last: resting.limit,
-            count: count - 1,
         }
     } else {
-        table[i].open = resting.open - rest;
+        let smaller = Order {
+            open: resting.open - rest,
+            ..resting
+        };
+        queue.replace(i, smaller);
         AfterTrade {
             rest: 0,
             last: resting.limit,
-            count,
         }
     }
 }

@@ -2,7 +2,7 @@
 ghost use Rattle.std.specs.Prelude.{◌≡◌, ◌<◌, ◌≤◌, length, nat_eq};
 ghost use Rattle.rules.specs.Auctions.{total};
 ghost use Rattle.queue.specs.Places.{first_place, FirstFound};
-ghost use Rattle.queue.specs.Lent.{listed, room, Joined, Left};
+ghost use Rattle.queue.specs.Lent.{listed, room, Joined, Left, Replaced};
 
 use super::Queue;
 use crate::{Numbered, Ranked, find_number};
@@ -78,6 +78,14 @@ impl<'a, R: Ranked + Copy> Queue<'a, R> {
         for k in i..self.count {
             self.records[k] = self.records[k + 1];
         }
+    }
+
+    // The record at a place gives way to another.
+    pub fn replace(&mut self, i: usize, r: R)
+        requires { i < self.old.count }
+        ensures { Replaced i r self.old self.new }
+    {
+        self.records[i] = r;
     }
 }
 

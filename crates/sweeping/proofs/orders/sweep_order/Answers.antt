@@ -1,9 +1,19 @@
-use Rattle.std.proofs.Common.{rules}
+use Rattle.std.proofs.Common.{arith, rules}
+use Rattle.lent.specs.Contents.{contents, page}
 use Rattle.sweeping.proofs.Opposites.{swept_settled}
 use Rattle.sweeping.proofs.orders.sweep_order.Goals as goal
 
-pub returns : goal.returns
-returns g c =
+pub settle_rest-requires-clause-buys : goal.settle_rest-requires-clause-buys
+settle_rest-requires-clause-buys g c = let x = c.sweep_opposite-left.ensures in omega (arith, c.requires.for_buy, x.swept.buys_fall, x.kept.desk.buys_length)
+
+pub settle_rest-requires-clause-sells : goal.settle_rest-requires-clause-sells
+settle_rest-requires-clause-sells g c = let x = c.sweep_opposite-left.ensures in omega (arith, c.requires.for_sell, x.swept.sells_fall, x.kept.desk.sells_length)
+
+pub settle_rest-requires-clause-line : goal.settle_rest-requires-clause-line
+settle_rest-requires-clause-line g c = let x = c.sweep_opposite-left.ensures in omega (arith, c.requires.lines, x.swept.few, x.kept.report.lines_length)
+
+pub returns-clause-swept : goal.returns-clause-swept
+returns-clause-swept g c =
     let x = c.sweep_opposite-left in
     let y = c.settle_rest in
-    λ grid. swept_settled grid (g.C.Collar.allows c.args.collar.now) c.args.order c.args.state.now x.new.state y.new.state c.args.buys.now x.new.buys y.new.buys c.args.sells.now x.new.sells y.new.sells c.args.report.now x.new.report y.new.report c.args.at y.result x.result c.requires (search rules) (search rules) x.ensures y.ensures
+    λ grid. swept_settled grid (g.C.Collar.allows c.args.collar.now) c.args.order (contents c.args.desk.now) (contents x.new.desk) (contents y.new.desk) (page c.args.report.now) (page x.new.report) (page y.new.report) x.result c.requires x.ensures.kept.desk.buys_length x.ensures.kept.desk.sells_length x.ensures.swept y.ensures.settled

@@ -1,17 +1,12 @@
-use Rattle.std.proofs.Common.{◌≡◌, ◌+◌, ◌<◌, ◌≤◌, length, take, drop}
-use Rattle.trading.specs.Sweeps.{sweep}
-use Rattle.sweeping.proofs.Turns.{finish}
+use Rattle.std.proofs.Common.{◌+◌}
+use Rattle.lent.specs.Contents.{page, ReportKept}
+use Rattle.sweeping.proofs.Turns.{Along}
 use Rattle.sweeping.proofs.tables.sweep_queue.Given as goal
 
--- what is still to come leads where the whole sweep leads
 abbrev pub invariant-trades : goal.invariant-trades
 invariant-trades g l =
-    let allows = g.C.Collar.allows l.collar l.static_price in
-    (finish l.report l.at (sweep allows l.order l.rest l.last (take l.count l.table)) ≡ finish l.initial.report l.from (sweep allows l.order l.order.«open» l.price (take l.entered l.initial.table)))
-    × (drop l.entered l.table ≡ drop l.entered l.initial.table)
-    × (l.count ≤ l.entered)
-    × (0 < l.rest → l.at + l.count ≤ length l.report)
-    × (length l.table ≡ length l.initial.table)
+    Along (g.C.Collar.allows l.collar l.static_price) l.order l.price l.initial.queue (page l.initial.report) l.rest l.last l.queue (page l.report)
+    × ReportKept l.initial.report l.report
 
 abbrev pub decreases-trades : goal.decreases-trades
-decreases-trades g l = l.rest + l.count
+decreases-trades g l = l.rest + l.queue.count

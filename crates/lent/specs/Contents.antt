@@ -1,0 +1,37 @@
+-- What lies in the tables and on the report that a call is lent.
+use Rattle.std.specs.Prelude.{◌≡◌, ℕ, List, length}
+use Rattle.trading.specs.declared.report.ReportLine.{ReportLine}
+use Rattle.trading.specs.Desks as desks
+use Rattle.lent.specs.declared.desk.Desk.{Desk}
+use Rattle.lent.specs.declared.report.Report.{Report}
+
+-- the state and the records of the tables
+abbrev pub contents : Desk → desks.Desk
+contents d = desks.desk_of d.state.now d.buys.now d.sells.now d.stops.now
+
+-- the lines of a report, and how many of them are written
+pub record Page : Type 0 where
+  pub lines : List ReportLine
+  pub written : ℕ
+
+abbrev pub page : Report → Page
+page r = record { lines = r.lines.now; written = r.written }
+
+-- b lies where a lay, in tables of the same lengths: what b holds in the end is what the lender of a gets back
+pub record DeskKept (a b : Desk) : Type 0 where
+  pub state : b.state.ghost_name ≡ a.state.ghost_name
+  pub buys : b.buys.ghost_name ≡ a.buys.ghost_name
+  pub sells : b.sells.ghost_name ≡ a.sells.ghost_name
+  pub stops : b.stops.ghost_name ≡ a.stops.ghost_name
+  pub buys_length : length b.buys.now ≡ length a.buys.now
+  pub sells_length : length b.sells.now ≡ length a.sells.now
+  pub stops_length : length b.stops.now ≡ length a.stops.now
+
+pub record ReportKept (a b : Report) : Type 0 where
+  pub lines : b.lines.ghost_name ≡ a.lines.ghost_name
+  pub lines_length : length b.lines.now ≡ length a.lines.now
+
+-- the same of both
+pub record Kept (d : Desk) (r : Report) (d' : Desk) (r' : Report) : Type 0 where
+  pub desk : DeskKept d d'
+  pub report : ReportKept r r'

@@ -1,0 +1,9 @@
+// What a call on a book is lent: the state with the three tables, and a report to write lines on.
+
+#![tactic(auto)]
+
+mod desk;
+mod report;
+
+pub use desk::Desk;
+pub use report::Report;
