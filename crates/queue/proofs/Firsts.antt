@@ -1,13 +1,15 @@
 -- The first record that passes a test.
-use Rattle.std.proofs.Common.{◌≡◌, ℕ, suc, ◌+◌, ◌<◌, ◌≤◌, Bool, true, false, not, List, [], ◌∷◌, length, None, sym, refl, ap, ◌∙◌, subst, inl, inr, one-add, arith}
-use Rattle.std.proofs.lemmas.Bool.{cond-true, cond-false, cond_both, cases_Bool, not_from_true, not_from_false, ltb-true, ltb-false}
+use Rattle.std.proofs.Common.{◌≡◌, ℕ, suc, ◌+◌, ◌<◌, ◌≤◌, Bool, true, false, not, List, [], ◌∷◌, length, Some, None, ltb, sym, refl, ap, ◌∙◌, subst, inl, inr, one-add, arith}
 use Rattle.std.specs.List.{position}
+use Rattle.std.specs.Option.{unwrap_or}
+use Rattle.std.proofs.lemmas.Bool.{cond-true, cond-false, cond_both, cases_Bool, not_from_true, not_from_false, ltb-true, ltb-false}
+use Rattle.std.proofs.lemmas.List.Sums.{prefix_len-le-length}
 use Rattle.trading.specs.Queues.{first_that, without_first, first_changed}
 use Rattle.queue.specs.Places.{first_place, FirstAt, FirstFound}
 
 module _ {R : Type 0} (passes : R → Bool) where
   -- it is in front
-  pub first_here : (x : R) (xs : List R) → passes x ≡ true → FirstAt passes (x ∷ xs) 0
+  first_here : (x : R) (xs : List R) → passes x ≡ true → FirstAt passes (x ∷ xs) 0
   unfolding first_that without_first first_changed
   first_here x xs e = record {
     within = omega arith;
@@ -17,7 +19,7 @@ module _ {R : Type 0} (passes : R → Bool) where
   }
 
   -- it is further back
-  pub first_later : (x : R) (xs : List R) (i : ℕ) → passes x ≡ false → FirstAt passes xs i → FirstAt passes (x ∷ xs) (suc i)
+  first_later : (x : R) (xs : List R) (i : ℕ) → passes x ≡ false → FirstAt passes xs i → FirstAt passes (x ∷ xs) (suc i)
   unfolding first_that without_first first_changed
   first_later x xs i e at = record {
     within = omega (arith, at.within);
@@ -26,17 +28,17 @@ module _ {R : Type 0} (passes : R → Bool) where
     changed = λ change d. cond-false _ _ _ e ∙ ap (λ ys. x ∷ ys) (at.changed change d);
   }
 
-  pub first_at : (xs : List R) (i : ℕ) → first_place passes xs ≡ i → i < length xs → FirstAt passes xs i
-  first_at [] i e h = absurd (omega arith)
-  first_at (x ∷ xs) i e h = elim (cases_Bool (passes x)) [
-    | inl t ↦ subst (FirstAt passes (x ∷ xs)) (sym (cond-false _ _ _ (not_from_true _ t)) ∙ e) (first_here x xs t)
+  first_at : (xs : List R) → first_place passes xs < length xs → FirstAt passes xs (first_place passes xs)
+  first_at [] h = absurd (omega arith)
+  first_at (x ∷ xs) h = elim (cases_Bool (passes x)) [
+    | inl t ↦ subst (FirstAt passes (x ∷ xs)) (sym (cond-false _ _ _ (not_from_true _ t))) (first_here x xs t)
     | inr f ↦
-        let up : suc (first_place passes xs) ≡ i = sym (one-add _) ∙ sym (cond-true _ _ _ (not_from_false _ f)) ∙ e in
-        subst (FirstAt passes (x ∷ xs)) up (first_later x xs _ f (first_at xs _ refl (omega arith)))
+        let back : first_place passes (x ∷ xs) ≡ suc (first_place passes xs) = cond-true _ _ _ (not_from_false _ f) ∙ one-add _ in
+        subst (FirstAt passes (x ∷ xs)) (sym back) (first_later x xs _ f (first_at xs (omega arith)))
   ]
 
   -- none passes
-  pub first_none : (xs : List R) → length xs ≤ first_place passes xs → first_that passes xs ≡ None
+  first_none : (xs : List R) → length xs ≤ first_place passes xs → first_that passes xs ≡ None
   unfolding first_that
   first_none [] h = refl
   first_none (x ∷ xs) h = elim (cases_Bool (passes x)) [
@@ -46,4 +48,10 @@ module _ {R : Type 0} (passes : R → Bool) where
 
   -- the library's search finds it
   pub position_first : (xs : List R) → FirstFound passes xs (position passes xs)
-  position_first xs = cond_both _ _ _ (FirstFound passes xs) (λ e. first_at xs _ refl (ltb-true _ _ e)) (λ e. first_none xs (ltb-false _ _ e))
+  position_first xs = cond_both _ _ _ (FirstFound passes xs) (λ e. first_at xs (ltb-true _ _ e)) (λ e. first_none xs (ltb-false _ _ e))
+
+  -- or tells that it is at the end
+  pub position_or_end : (xs : List R) → unwrap_or (position passes xs) (length xs) ≡ first_place passes xs
+  position_or_end xs =
+      let i = first_place passes xs in
+      cond_both (ltb i (length xs)) (Some i) None (λ o. unwrap_or o (length xs) ≡ i) (λ e. refl) (λ e. omega (arith, prefix_len-le-length (λ x. not (passes x)) xs, ltb-false i (length xs) e))

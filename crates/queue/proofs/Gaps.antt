@@ -1,50 +1,51 @@
--- Joining and leaving as a table shows them: a gap that moves.
-use Rattle.std.proofs.Common.{◌≡◌, ℕ, zero, suc, ◌+◌, ◌<◌, ◌≤◌, Bool, true, false, cond, not, List, [], ◌∷◌, length, get_or, take, set, sym, refl, ap, ◌∙◌, add-one, one-add, arith}
-use lib.Seq.{take-set-lt}
-use Rattle.std.specs.List.{insert, remove}
-use Rattle.std.proofs.lemmas.List.{length-take-le, get_or-take}
+-- Joining and leaving as a table shows them: the records behind a place move by one.
+use Rattle.std.proofs.Common.{◌≡◌, ℕ, ◌+◌, ◌-◌, ◌<◌, ◌≤◌, Bool, true, false, cond, not, List, [], ◌∷◌, ◌++◌, length, take, drop, set, sym, refl, ap, ◌∙◌, add-one, one-add, append_assoc, drop-set-lt, arith}
+use lib.Seq.{paste, take-set-lt}
+use Rattle.std.specs.List.{insert, remove, copy_within}
+use Rattle.std.proofs.lemmas.List.{take-take, drop-take, take_more_set, set-append_left, length-take-le, length-drop}
+use Rattle.std.proofs.lemmas.List.Edits.{take-paste, drop-paste}
+use Rattle.std.proofs.lemmas.Grind.{drop_more_same}
 use Rattle.trading.specs.Queues.{joined}
 use Rattle.queue.specs.Places.{first_place}
 
 module _ {R : Type 0} where
-  -- the record in front of the gap moves into it
-  step_back : (ys : List R) (i : ℕ) (d : R) → i + 1 < length ys → remove (set ys (suc i) (get_or ys i d)) i ≡ remove ys (suc i)
-  step_back [] i d h = absurd (omega arith)
-  step_back (x ∷ []) i d h = absurd (omega arith)
-  step_back (x ∷ (y ∷ ys)) zero d h = refl
-  step_back (x ∷ (y ∷ ys)) (suc i) d h = ap (λ zs. x ∷ zs) (step_back (y ∷ ys) i d (omega arith))
+  -- m records from i on move back by one, and r takes the place at i
+  back : (xs : List R) (i m : ℕ) (r : R) → i + m < length xs → take (i + 1 + m) (set (paste xs (i + 1) (drop i xs) m) i r) ≡ insert (take (i + m) xs) i r
+  back xs i m r h =
+      take-set-lt (i + 1 + m) (paste xs (i + 1) (drop i xs) m) i r (omega arith)
+      ∙ ap (λ ys. set ys i r) (take-paste xs (i + 1) (drop i xs) m (omega arith) (omega (arith, length-drop i xs)))
+      ∙ set-append_left (take (i + 1) xs) (take m (drop i xs)) i r (omega (arith, length-take-le (i + 1) xs (omega arith)))
+      ∙ ap (λ ys. ys ++ take m (drop i xs)) (sym (take-set-lt (i + 1) xs i r (omega arith)) ∙ take_more_set xs i r (omega arith))
+      ∙ append_assoc (take i xs) (r ∷ []) (take m (drop i xs))
+      ∙ sym (rw (take-take i (i + m) xs (omega arith), drop-take i m xs) refl)
 
-  -- the record behind the gap moves into it
-  step_up : (ys : List R) (i : ℕ) (d : R) → i + 1 < length ys → remove (set ys i (get_or ys (suc i) d)) (suc i) ≡ remove ys i
-  step_up [] i d h = absurd (omega arith)
-  step_up (x ∷ []) i d h = absurd (omega arith)
-  step_up (x ∷ (y ∷ ys)) zero d h = refl
-  step_up (x ∷ (y ∷ ys)) (suc i) d h = ap (λ zs. x ∷ zs) (step_up (y ∷ ys) i d (omega arith))
+  -- m records behind i move up by one
+  up : (xs : List R) (i m : ℕ) → i + 1 + m ≤ length xs → take (i + m) (paste xs i (drop (i + 1) xs) m) ≡ remove (take (i + 1 + m) xs) i
+  up xs i m h =
+      take-paste xs i (drop (i + 1) xs) m (omega arith) (omega (arith, length-drop (i + 1) xs))
+      ∙ sym (rw (take-take i (i + 1 + m) xs (omega arith), ← add-one i, drop-take (i + 1) m xs) refl)
 
-  -- r fills the gap
-  filled : (ys : List R) (i : ℕ) (r : R) → i < length ys → set ys i r ≡ insert (remove ys i) i r
-  filled [] i r h = absurd (omega arith)
-  filled (y ∷ ys) zero r h = refl
-  filled (y ∷ ys) (suc i) r h = ap (λ zs. y ∷ zs) (filled ys i r (omega arith))
+  -- the same in the first n records of a table, and what stands beyond stays
+  pub moved_back : (xs ys : List R) (n i : ℕ) (r : R) → i ≤ n → n < length xs → ys ≡ copy_within xs i n (i + 1) → (take (n + 1) (set ys i r) ≡ insert (take n xs) i r) × (drop (n + 1) (set ys i r) ≡ drop (n + 1) xs)
+  moved_back xs ys n i r le lt e =
+      let m = n - i in
+      let at = paste xs (i + 1) (drop i xs) m in
+      let whole : i + m ≡ n = omega arith in
+      let more : i + 1 + m ≡ n + 1 = omega arith in (
+        ap (λ zs. take (n + 1) (set zs i r)) e ∙ ap (λ k. take k (set at i r)) (sym more) ∙ back xs i m r (omega arith) ∙ ap (λ k. insert (take k xs) i r) whole,
+        drop-set-lt (n + 1) ys i r (omega arith) ∙ ap (λ zs. drop (n + 1) zs) e ∙ ap (λ k. drop k at) (sym more) ∙ drop-paste xs (i + 1) (drop i xs) m (omega arith) (omega (arith, length-drop i xs)) ∙ ap (λ k. drop k xs) more,
+      )
 
-  -- a gap in the last place
-  last_out : (xs : List R) (n : ℕ) → remove (take (suc n) xs) n ≡ take n xs
-  last_out [] zero = refl
-  last_out [] (suc n) = refl
-  last_out (x ∷ xs) zero = refl
-  last_out (x ∷ xs) (suc n) = ap (λ zs. x ∷ zs) (last_out xs n)
-
-  -- the same in the first n records of a table
-  pub gap_last : (xs : List R) (n : ℕ) → remove (take (n + 1) xs) n ≡ take n xs
-  gap_last xs n = rw add-one (last_out xs n)
-
-  pub gap_down : (xs : List R) (n i : ℕ) (d : R) → i + 1 < n → n ≤ length xs → remove (take n (set xs (i + 1) (get_or xs i d))) i ≡ remove (take n xs) (i + 1)
-  gap_down xs n i d lt le =
-      rw (take-set-lt n xs (i + 1) (get_or xs i d) lt, ← get_or-take n xs i d (omega arith), add-one i) (step_back (take n xs) i d (omega (arith, length-take-le n xs le)))
-
-  pub gap_up : (xs : List R) (n i : ℕ) (d : R) → i + 1 < n → n ≤ length xs → remove (take n (set xs i (get_or xs (i + 1) d))) (i + 1) ≡ remove (take n xs) i
-  gap_up xs n i d lt le =
-      rw (take-set-lt n xs i (get_or xs (i + 1) d) (omega arith), ← get_or-take n xs (i + 1) d lt, add-one i) (step_up (take n xs) i d (omega (arith, length-take-le n xs le)))
+  pub moved_up : (xs ys : List R) (n i : ℕ) → i < n → n ≤ length xs → ys ≡ copy_within xs (i + 1) n i → (take (n - 1) ys ≡ remove (take n xs) i) × (drop n ys ≡ drop n xs)
+  moved_up xs ys n i lt le e =
+      let m = n - (i + 1) in
+      let at = paste xs i (drop (i + 1) xs) m in
+      let less : i + m ≡ n - 1 = omega arith in
+      let whole : i + 1 + m ≡ n = omega arith in
+      let last : i + m + 1 ≡ n = omega arith in (
+        ap (λ zs. take (n - 1) zs) e ∙ ap (λ k. take k at) (sym less) ∙ up xs i m (omega arith) ∙ ap (λ k. remove (take k xs) i) whole,
+        ap (λ zs. drop n zs) e ∙ ap (λ k. drop k at) (sym last) ∙ drop_more_same at xs (i + m) (drop-paste xs i (drop (i + 1) xs) m (omega arith) (omega (arith, length-drop (i + 1) xs))) ∙ ap (λ k. drop k xs) last,
+      )
 
   -- joining is putting r before the first record that it is ahead of
   pub joined_is : (ahead : R → R → Bool) (r : R) (xs : List R) → joined ahead r xs ≡ insert xs (first_place (ahead r) xs) r
@@ -53,8 +54,3 @@ module _ {R : Type 0} where
   joined_is ahead r (x ∷ xs) =
       let At : Bool → Type 0 = λ b. cond b (r ∷ (x ∷ xs)) (x ∷ joined ahead r xs) ≡ insert (x ∷ xs) (cond (not b) (1 + first_place (ahead r) xs) 0) r in
       elim (ahead r x) as At [ true ↦ refl | false ↦ rw one-add (ap (λ ys. x ∷ ys) (joined_is ahead r xs)) ]
-
-  -- r fills the gap where it joins
-  pub gap_filled : (ahead : R → R → Bool) (r : R) (xs ys : List R) (n i : ℕ) → i < n → n ≤ length xs → remove (take n xs) i ≡ ys → i ≡ first_place (ahead r) ys → take n (set xs i r) ≡ joined ahead r ys
-  gap_filled ahead r xs ys n i lt le gap at =
-      take-set-lt n xs i r lt ∙ filled (take n xs) i r (omega (arith, length-take-le n xs le)) ∙ ap (λ zs. insert zs i r) gap ∙ ap (λ k. insert ys k r) at ∙ sym (joined_is ahead r ys)

@@ -1,7 +1,7 @@
 -- A queue in order stays in order when a record joins or leaves.
-use Rattle.std.proofs.Common.{◌≡◌, ℕ, zero, suc, Bool, true, false, not, List, [], ◌∷◌, refl, ap, inl, inr}
+use Rattle.std.proofs.Common.{◌≡◌, ℕ, zero, suc, Bool, true, false, not, List, [], ◌∷◌, refl, ap, arith}
 use Rattle.std.specs.List.{remove}
-use Rattle.std.proofs.lemmas.Bool.{both_ways, cases_Bool, not-true, and_from, and_parts, cond_both}
+use Rattle.std.proofs.lemmas.Bool.{not-true, and_from, and_parts, cond_both}
 use Rattle.trading.specs.Queues.{joined, not_ahead, in_order}
 
 module _ {R : Type 0} (ahead : R → R → Bool) (never_both : (a b : R) → ahead a b ≡ true → ahead b a ≡ false) where
@@ -24,16 +24,7 @@ module _ {R : Type 0} (ahead : R → R → Bool) (never_both : (a b : R) → ahe
       (level : (a b c : R) → ahead a b ≡ false → ahead b a ≡ false → ahead b c ≡ false → ahead c b ≡ false → (ahead a c ≡ false) × (ahead c a ≡ false)) where
     -- not being ahead is transitive
     behind : (a b c : R) → ahead b a ≡ false → ahead c b ≡ false → ahead c a ≡ false
-    behind a b c ba cb = elim (cases_Bool (ahead c a)) [
-      | inl ca ↦ elim (cases_Bool (ahead a b)) [
-        | inl ab ↦ absurd (both_ways (ahead c b) cb (trans c a b ca ab))
-        | inr ab ↦ elim (cases_Bool (ahead b c)) [
-          | inl bc ↦ absurd (both_ways (ahead b a) ba (trans b c a bc ca))
-          | inr bc ↦ (level a b c ab ba bc cb).1
-        ]
-      ]
-      | inr ca ↦ ca
-    ]
+    behind a b c ba cb = grind (arith, trans, level)
 
     next_removed : (x : R) (xs : List R) (i : ℕ) → not_ahead ahead x xs ≡ true → in_order ahead xs ≡ true → not_ahead ahead x (remove xs i) ≡ true
     next_removed x [] zero n o = refl

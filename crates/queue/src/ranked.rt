@@ -1,7 +1,7 @@
 // Records that stand in a queue.
 ghost use Rattle.std.specs.Prelude.{◌≡◌, ℕ, Bool, true, false};
 
-// A record with a rank among its kind, and a quantity.
+// A record with a rank among its kind, and a quantity. Records of one rank need not be equal, so the rank is no `Ord`.
 pub trait Ranked {
     // who is ahead of whom
     ghost ahead: { Self → Self → Bool };

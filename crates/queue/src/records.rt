@@ -6,7 +6,7 @@ use crate::{Numbered, Ranked};
 use rules::{Order, Side};
 use trading::StopOrder;
 
-// By side, then by limit: market orders, whose limit is 0, first; then the higher buy limit, or the lower sell limit.
+// By side, then by limit: market orders, whose limit is 0, first; then the higher buy limit, or the lower sell limit, of which 0 is the lowest.
 impl Ranked for Order {
     ghost ahead = { order_ahead };
 
@@ -23,19 +23,9 @@ impl Ranked for Order {
             (Side::Buy, Side::Sell) => true,
             (Side::Sell, Side::Buy) => false,
             (Side::Buy, Side::Buy) => {
-                if self.limit == 0 {
-                    other.limit != 0
-                } else {
-                    other.limit != 0 && self.limit > other.limit
-                }
+                other.limit != 0 && (self.limit == 0 || self.limit > other.limit)
             }
-            (Side::Sell, Side::Sell) => {
-                if self.limit == 0 {
-                    other.limit != 0
-                } else {
-                    other.limit != 0 && self.limit < other.limit
-                }
-            }
+            (Side::Sell, Side::Sell) => self.limit < other.limit,
         }
     }
 

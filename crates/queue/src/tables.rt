@@ -10,15 +10,10 @@ use crate::{Numbered, Queue, Ranked};
 pub fn find_number<R: Numbered>(queue: &[R], number: u32) -> Option<usize>
     ensures { FirstFound (λ x. nat_eq (R.tag x) number) queue.now result }
 {
-    for (i, x) in queue.iter().enumerate() {
-        if x.number() == number {
-            return Some(i);
-        }
-    }
-    None
+    queue.iter().position(|x| x.number() == number)
 }
 
-// A record joins the queue of the first `count` records of a table.
+// A record joins the queue of the first `count` records of a table. The count stands in the state of a book, apart from the table.
 pub fn join_table<R: Ranked + Copy>(table: &mut [R], count: usize, r: R)
     requires { count < length table.old }
     ensures queue { take (count + 1) table.new ≡ joined R.ahead r (take count table.old) }

@@ -12,12 +12,10 @@ fn place_of<R: Ranked>(queue: &[R], r: &R) -> usize
     ensures place { result ≡ first_place (R.ahead r.now) queue.now }
     ensures within { result ≤ length queue.now }
 {
-    for (i, x) in queue.iter().enumerate() {
-        if r.precedes(x) {
-            return i;
-        }
-    }
-    queue.len()
+    queue
+        .iter()
+        .position(|x| r.precedes(x))
+        .unwrap_or(queue.len())
 }
 
 impl<'a, R: Ranked + Copy> Queue<'a, R> {
@@ -42,18 +40,17 @@ impl<'a, R: Ranked + Copy> Queue<'a, R> {
         ensures queue { result.now ≡ listed self.now }
         ensures size { length result.now ≡ self.now.count }
     {
-        &self.records[0..self.count]
+        &self.records[..self.count]
     }
 
     // The sum of the quantities.
     pub fn total(&self) -> u128
         ensures { result ≡ total R.amount (listed self.now) }
     {
-        let mut sum = 0;
-        for x in self.as_slice() {
-            sum += u128::from(x.quantity());
-        }
-        sum
+        self.as_slice()
+            .iter()
+            .map(|x| u128::from(x.quantity()))
+            .sum()
     }
 
     // A record joins, before the first that it is ahead of, else at the end.
@@ -62,9 +59,7 @@ impl<'a, R: Ranked + Copy> Queue<'a, R> {
         ensures { Joined R.ahead r self.old self.new }
     {
         let at = place_of(self.as_slice(), &r);
-        for i in (at..self.count).rev() {
-            self.records[i + 1] = self.records[i];
-        }
+        self.records.copy_within(at..self.count, at + 1);
         self.records[at] = r;
         self.count += 1;
     }
@@ -74,10 +69,8 @@ impl<'a, R: Ranked + Copy> Queue<'a, R> {
         requires { i < self.old.count }
         ensures { Left R.ahead i self.old self.new }
     {
+        self.records.copy_within(i + 1..self.count, i);
         self.count -= 1;
-        for k in i..self.count {
-            self.records[k] = self.records[k + 1];
-        }
     }
 
     // The record at a place gives way to another.

@@ -1,14 +1,12 @@
-use Rattle.std.proofs.Common.{eqb, rules}
-use Rattle.std.proofs.lemmas.List.Sums.{prefix_len-drop_yes, prefix_len-drop_no, prefix_len-drop_all}
-use Rattle.std.proofs.lemmas.Bool.{not_from_true, not_from_false, eq-eqb, ne_eqb}
-use Rattle.queue.proofs.Firsts.{first_at, first_none}
+use Rattle.std.proofs.Common.{Bool, nat_eq, subst, sym, rules, tests}
+use Rattle.std.proofs.lemmas.Iterator.{YieldsList-from_slice}
+use Rattle.std.proofs.lemmas.Iterator.Search.{position_from_yields_List}
+use Rattle.queue.specs.Places.{FirstFound}
+use Rattle.queue.proofs.Firsts.{position_first}
 use Rattle.queue.proofs.tables.find_number.Goals as goal
 
-pub returns-then-number : goal.returns-then-number
-returns-then-number g c = first_at (λ x. eqb (g.R.Numbered.tag x) c.args.number) c.args.queue.now c.loop-i.i (search (rules, prefix_len-drop_no, not_from_true, eq-eqb)) (search rules)
-
-pub loop-i-preserved : goal.loop-i-preserved
-loop-i-preserved g c = search (rules, prefix_len-drop_yes, not_from_false, ne_eqb)
-
 pub returns : goal.returns
-returns g c = first_none (λ x. eqb (g.R.Numbered.tag x) c.args.number) c.args.queue.now (search (rules, prefix_len-drop_all))
+returns g c =
+    let xs = c.args.queue.now in
+    let test : g.row.R.Denot → Bool = λ x. nat_eq (g.R.Numbered.tag x) c.args.number in
+    subst (FirstFound test xs) (sym (position_from_yields_List test _ _ c.position.result c.position.ensures.ran (YieldsList-from_slice xs cc) (λ x b q k. search (rules, tests)))) (position_first test xs)

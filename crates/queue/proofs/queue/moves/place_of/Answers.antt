@@ -1,13 +1,12 @@
-use Rattle.std.proofs.Common.{rules}
-use Rattle.std.proofs.lemmas.List.Sums.{prefix_len-drop_yes, prefix_len-drop_no, prefix_len-drop_all}
-use Rattle.std.proofs.lemmas.Bool.{not_from_true, not_from_false}
+use Rattle.std.proofs.Common.{◌∙◌, ap, length, unwrap_or, rules, tests}
+use Rattle.std.proofs.lemmas.Iterator.{YieldsList-from_slice}
+use Rattle.std.proofs.lemmas.Iterator.Search.{position_from_yields_List}
+use Rattle.queue.proofs.Firsts.{position_or_end}
 use Rattle.queue.proofs.queue.moves.place_of.Goals as goal
 
-pub returns-then-precedes : goal.returns-then-precedes
-returns-then-precedes g c = record { place = search (rules, prefix_len-drop_no, not_from_true); within = search rules }
-
-pub loop-i-preserved : goal.loop-i-preserved
-loop-i-preserved g c = search (rules, prefix_len-drop_yes, not_from_false)
-
-pub returns : goal.returns
-returns g c = record { place = search (rules, prefix_len-drop_all); within = search rules }
+pub returns-clause-place : goal.returns-clause-place
+returns-clause-place g c =
+    let xs = c.args.queue.now in
+    let test = g.R.Ranked.ahead c.args.r.now in
+    let found = position_from_yields_List test _ _ c.position.result c.position.ensures.ran (YieldsList-from_slice xs cc) (λ x b q k. search (rules, tests)) in
+    c.unwrap_or.ensures ∙ ap (λ o. unwrap_or o (length xs)) found ∙ position_or_end test xs
