@@ -1,5 +1,5 @@
 -- How a sweep goes on past the orders that sleep.
-use Rattle.std.proofs.Common.{◌≡◌, ℕ, zero, suc, ◌+◌, ◌-◌, one-add, ◌<◌, ◌≤◌, min, Bool, true, false, not, eqb, leb, List, [], ◌∷◌, ◌++◌, length, get_or, take, drop, set, sym, refl, ap, ◌∙◌, subst, arith}
+use Rattle.std.proofs.Common.{◌≡◌, ℕ, zero, suc, ◌+◌, ◌-◌, one-add, ◌<◌, min, Bool, true, false, not, eqb, leb, List, [], ◌∷◌, ◌++◌, length, get_or, take, drop, set, sym, refl, ap, ◌∙◌, subst, arith}
 use Rattle.std.specs.List.{remove, position, position_or_len, AllByRecursion}
 use Rattle.std.proofs.lemmas.List.{append-nil, set-get_or, set_split, take_all}
 use Rattle.std.proofs.lemmas.Bool.{cond_both, ne_eqb, leb-false, not-true, not-false, ltb-true, ltb-false}

@@ -1,5 +1,5 @@
 -- What is left of an order that has swept is settled, in memory.
-use Rattle.std.proofs.Common.{◌≡◌, ℕ, ◌+◌, ◌<◌, true, false, List, [], ◌∷◌, length, set, sym, refl, ap, ◌∙◌, subst}
+use Rattle.std.proofs.Common.{◌≡◌, ℕ, ◌+◌, ◌<◌, true, false, [], ◌∷◌, length, set, sym, refl, ap, ◌∙◌, subst}
 use Rattle.rules.specs.declared.order.Order.{Order}
 use Rattle.trading.specs.declared.state.State.{State}
 use Rattle.trading.specs.declared.state.Phase.{Phase}

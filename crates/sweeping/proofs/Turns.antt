@@ -53,12 +53,12 @@ turn allows t price a b b' p p' p'' rest last i r some met x kept along =
     let o = get_or (listed b) i blank in
     let same = length-set p'.lines p'.written (trade_with t o (min rest o.«open»)) in
     record {
-  leads = rw (x.line, x.place, x.rest, x.last, x.queue, add-one) (sym (ap (finish p') met)) ∙ along.leads;
-  beyond = past_later b'.records.now b.records.now b.count a.count along.count x.beyond ∙ along.beyond;
-  count = omega (arith, x.count, along.count);
-  room = λ left. omega (arith, x.gone left, x.place, along.room some, ap length x.line, same);
-  table = record { room = kept.room ∙ along.table.room; lender = kept.lender ∙ along.table.lender };
-}
+      leads = rw (x.line, x.place, x.rest, x.last, x.queue, add-one) (sym (ap (finish p') met)) ∙ along.leads;
+      beyond = past_later b'.records.now b.records.now b.count a.count along.count x.beyond ∙ along.beyond;
+      count = omega (arith, x.count, along.count);
+      room = λ left. omega (arith, x.gone left, x.place, along.room some, ap length x.line, same);
+      table = record { room = kept.room ∙ along.table.room; lender = kept.lender ∙ along.table.lender };
+    }
 
 -- at most one trade with each order
 pub trades_fit : (allows : ℕ → ℕ → Bool) (t : Order) (rest last : ℕ) (os : List Order) → length (sweep allows t rest last os).trades ≤ length os

@@ -71,6 +71,10 @@ pub fn settle_rest(desk: &mut Desk<'_>, report: &mut Report<'_>, order: Order, l
         open: left.rest,
         ..order
     };
+    let lapse = ReportLine::Lapse {
+        number: order.number,
+        quantity: left.rest,
+    };
     match (left.ending, is_day(order.validity)) {
         (Ending::Filled, _) => {}
         (Ending::Nobody, true) => join_order(desk, resting),
@@ -78,10 +82,7 @@ pub fn settle_rest(desk: &mut Desk<'_>, report: &mut Report<'_>, order: Order, l
             join_order(desk, resting);
             desk.state.phase = Phase::Call;
         }
-        (_, false) => report.write(ReportLine::Lapse {
-            number: order.number,
-            quantity: left.rest,
-        }),
+        (_, false) => report.write(lapse),
     }
 }
 

@@ -1,4 +1,4 @@
-use Rattle.std.proofs.Common.{arith, rules}
+use Rattle.std.proofs.Common.{arith}
 use Rattle.lent.specs.Contents.{contents, page}
 use Rattle.sweeping.proofs.Opposites.{swept_settled}
 use Rattle.sweeping.proofs.orders.sweep_order.Goals as goal

@@ -1,4 +1,4 @@
-use Rattle.std.proofs.Common.{◌∙◌, rules}
+use Rattle.std.proofs.Common.{rules}
 use Rattle.queue.specs.Lent.{listed}
 use Rattle.sweeping.proofs.Meeting.{traded_gone, traded_less}
 use Rattle.sweeping.proofs.trade.trade_at.Goals as goal
