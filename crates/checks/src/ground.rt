@@ -1,67 +1,62 @@
 // The checks that every call makes first: room in the report, and well-formed tables.
-ghost use Rattle.std.specs.Prelude.{◌≡◌, ◌≤◌, length};
-ghost use Rattle.trading.specs.Desks.{desk_of, book_of, capacity, counts_fit, queues_fit, well_formed};
+ghost use Rattle.std.specs.Prelude.{◌≡◌, length};
+ghost use Rattle.trading.specs.Desks.{book_of, capacity, counts_fit, queues_fit, well_formed};
+ghost use Rattle.trading.specs.Carried.{CountsFit};
+ghost use Rattle.lent.specs.Contents.{contents};
 ghost use Rattle.checks.specs.Ground.{Ground};
 
 use crate::fits::begins_with_queue;
 use grid::is_price;
-use rules::{Order, Side};
-use trading::{BookFault, ReportLine, State, StopOrder};
+use lent::Desk;
+use rules::Side;
+use trading::{BookFault, ReportLine};
 
 // How many records a book may hold, however long its tables are.
 pub const MAX_RECORDS: usize = 4_096;
 
 // How many records a book may hold in these tables.
-pub fn capacity_of(state: State, buys: &[Order], sells: &[Order], stops: &[StopOrder]) -> usize
-    ensures { result ≡ capacity (desk_of state buys.now sells.now stops.now) }
+pub fn capacity_of(desk: &Desk<'_>) -> usize
+    ensures { result ≡ capacity (contents desk.now) }
 {
-    MAX_RECORDS.min(buys.len().min(sells.len().min(stops.len())))
+    MAX_RECORDS.min(desk.buys.len().min(desk.sells.len().min(desk.stops.len())))
 }
 
 // Each count is held to the capacity before they are added up.
-fn counts_fit(state: State, buys: &[Order], sells: &[Order], stops: &[StopOrder]) -> bool
-    ensures { result ≡ counts_fit (desk_of state buys.now sells.now stops.now) }
+fn counts_fit(desk: &Desk<'_>) -> bool
+    ensures { result ≡ counts_fit (contents desk.now) }
 {
-    let n = capacity_of(state, buys, sells, stops);
-    state.buys <= n
-        && state.sells <= n
-        && state.stops <= n
-        && state.buys + state.sells + state.stops <= n
+    let n = capacity_of(desk);
+    desk.state.buys <= n
+        && desk.state.sells <= n
+        && desk.state.stops <= n
+        && desk.state.buys + desk.state.sells + desk.state.stops <= n
 }
 
-fn queues_fit(state: State, buys: &[Order], sells: &[Order], stops: &[StopOrder]) -> bool
-    requires buys { state.buys ≤ length buys.now }
-    requires sells { state.sells ≤ length sells.now }
-    requires stops { state.stops ≤ length stops.now }
-    ensures { result ≡ queues_fit (book_of (desk_of state buys.now sells.now stops.now)) }
+fn queues_fit(desk: &Desk<'_>) -> bool
+    requires { CountsFit (contents desk.now) }
+    ensures { result ≡ queues_fit (book_of (contents desk.now)) }
 {
-    begins_with_queue(buys, state.buys, Side::Buy)
-        && begins_with_queue(sells, state.sells, Side::Sell)
-        && begins_with_queue(stops, state.stops, Side::Buy)
-        && is_price(state.static_price)
-        && is_price(state.last)
+    begins_with_queue(desk.buys, desk.state.buys, Side::Buy)
+        && begins_with_queue(desk.sells, desk.state.sells, Side::Sell)
+        && begins_with_queue(desk.stops, desk.state.stops, Side::Buy)
+        && is_price(desk.state.static_price)
+        && is_price(desk.state.last)
 }
 
-fn well_formed(state: State, buys: &[Order], sells: &[Order], stops: &[StopOrder]) -> bool
-    ensures { result ≡ well_formed (desk_of state buys.now sells.now stops.now) }
+fn well_formed(desk: &Desk<'_>) -> bool
+    ensures { result ≡ well_formed (contents desk.now) }
 {
-    counts_fit(state, buys, sells, stops) && queues_fit(state, buys, sells, stops)
+    counts_fit(desk) && queues_fit(desk)
 }
 
 // Refuses a report that is too short, then tables that are not well-formed.
-pub fn check_ground(
-    state: State,
-    buys: &[Order],
-    sells: &[Order],
-    stops: &[StopOrder],
-    report: &[ReportLine],
-) -> Result<(), BookFault>
-    ensures { Ground (desk_of state buys.now sells.now stops.now) (length report.now) result }
+pub fn check_ground(desk: &Desk<'_>, report: &[ReportLine]) -> Result<(), BookFault>
+    ensures { Ground (contents desk.now) (length report.now) result }
 {
-    if report.len() < capacity_of(state, buys, sells, stops) + 1 {
+    if report.len() < capacity_of(desk) + 1 {
         return Err(BookFault::ReportTooShort);
     }
-    if !well_formed(state, buys, sells, stops) {
+    if !well_formed(desk) {
         return Err(BookFault::NotWellFormed);
     }
     Ok(())
