@@ -1,13 +1,14 @@
 -- An order that enters again.
 use Rattle.std.proofs.Common.{◌≡◌, ℕ, ◌+◌, ◌≤◌, List, [], ◌∷◌, length, set, ap, ◌∙◌, subst, arith, length-take}
 use Rattle.rules.specs.declared.order.Order.{Order}
-use Rattle.trading.specs.declared.report.ReportLine.{ReportLine}
 use Rattle.trading.specs.declared.report.ReportLine.TheVariants.{Lapse}
 use Rattle.trading.specs.Books.{Venue, Book, held, blank_stop}
 use Rattle.trading.specs.Sweeps.{moved}
 use Rattle.trading.specs.Calls.{place, quantity_at, taken_out, renewed, enters_as}
 use Rattle.trading.specs.Desks.{Desk, book_of, capacity}
-use Rattle.trading.specs.Moves.{written_at, Ready, Came}
+use Rattle.trading.specs.Moves.{written_at, Ready}
+use Rattle.lent.specs.Contents.{Page}
+use Rattle.lent.specs.Moves.{Comes}
 use Rattle.sessions.proofs.Balance.{count_length, size_held, enters_balanced}
 use Rattle.sweeping.proofs.Following.{written_one, came_after, ready_later, same_capacity}
 use Rattle.book.specs.declared.finding.Spot.{Spot}
@@ -37,31 +38,32 @@ placed_quantity n b x s = by_spot x.spot s.at s.is
 enters_fits : (v : Venue) (o : Order) (b : Book) → length (enters_as v o b).lines + held (enters_as v o b).book ≤ 1 + held b
 enters_fits v o b = omega (arith, (enters_balanced v o b).fits, count_length (enters_as v o b).lines, size_held (enters_as v o b).book, size_held b)
 
-module _ (n q : ℕ) (d d' : Desk) (x : Standing) (report : List ReportLine) (fit : Fit d) (stands : Stands n (book_of d) x) (wide : capacity d + 1 ≤ length report) (out : Out d n q d') where
+module _ (n q : ℕ) (d d' : Desk) (x : Standing) (p p' : Page) (fit : Fit d) (stands : Stands n (book_of d) x) (wide : p.written + capacity d + 1 ≤ length p.lines) (out : Out d n q d')
+    (line : p'.lines ≡ set p.lines p.written (Lapse n q)) (next : p'.written ≡ p.written + 1) where
   -- it has left and lapsed
-  left_and_lapsed : Came (capacity d) (moved (taken_out n (book_of d) (place n (book_of d))) (Lapse n x.order.«open» ∷ [])) d report 0 d' (set report 0 (Lapse n q)) 1
+  left_and_lapsed : Comes (capacity d) (moved (taken_out n (book_of d) (place n (book_of d))) (Lapse n x.order.«open» ∷ [])) d p d' p'
   left_and_lapsed = let u = out.untouched in record {
     book = out.book;
     counts = out.counts;
-    lines = written_one report 0 (Lapse n q) (omega (arith, wide)) ∙ ap (λ k. written_at report 0 (Lapse n k ∷ [])) (out.quantity ∙ placed_quantity n (book_of d) x stands);
-    place = omega arith;
+    lines = line ∙ written_one p.lines p.written (Lapse n q) (omega (arith, wide)) ∙ ap (λ k. written_at p.lines p.written (Lapse n k ∷ [])) (out.quantity ∙ placed_quantity n (book_of d) x stands);
+    place = next;
     beyond = record { buys_length = u.buys_length; sells_length = u.sells_length; stops_length = u.stops_length; buys = u.buys_beyond; sells = u.sells_beyond; stops = u.stops_beyond };
   }
 
   -- there is room for it again
-  pub room_again : Ready (capacity d) d' (length report) 1 1
+  pub room_again : Ready (capacity d) d' (length p.lines) p'.written 1
   room_again =
       let u = out.untouched in
-      record { buys = omega (arith, u.buys_length); sells = omega (arith, u.sells_length); stops = omega (arith, u.stops_length); records = omega (arith, out.fewer, fit.few); lines = omega (arith, out.fewer, fit.few, wide) }
+      record { buys = omega (arith, u.buys_length); sells = omega (arith, u.sells_length); stops = omega (arith, u.stops_length); records = omega (arith, out.fewer, fit.few); lines = omega (arith, next, out.fewer, fit.few, wide) }
 
-  pub came_again : (v : Venue) (limit quantity : ℕ) (d'' : Desk) (report'' : List ReportLine) (end : ℕ)
-      → Came (capacity d) (enters_as v (renewed x.order limit quantity) (book_of d')) d' (set report 0 (Lapse n q)) 1 d'' report'' end → AgainCame v n limit quantity x.order d report d'' report'' end
-  came_again v limit quantity d'' report'' end c =
+  pub came_again : (v : Venue) (limit quantity : ℕ) (d'' : Desk) (p'' : Page)
+      → Comes (capacity d) (enters_as v (renewed x.order limit quantity) (book_of d')) d' p' d'' p'' → AgainCame v n limit quantity x.order d p d'' p''
+  came_again v limit quantity d'' p'' c =
       let o = renewed x.order limit quantity in
       let first = left_and_lapsed in
-      let whole = came_after (capacity d) (moved (taken_out n (book_of d) (place n (book_of d))) (Lapse n x.order.«open» ∷ [])) (enters_as v o (taken_out n (book_of d) (place n (book_of d)))) d d' d'' report (set report 0 (Lapse n q)) report'' 0 1 end (omega (arith, wide)) first
-      (subst (λ b. Came (capacity d) (enters_as v o b) d' (set report 0 (Lapse n q)) 1 d'' report'' end) out.book c) in
-      let later = ready_later (capacity d) (enters_as v o (book_of d')) d' d'' (set report 0 (Lapse n q)) report'' 1 end (length report) 1 (enters_fits v o (book_of d')) room_again c in
+      let whole = came_after (capacity d) (moved (taken_out n (book_of d) (place n (book_of d))) (Lapse n x.order.«open» ∷ [])) (enters_as v o (taken_out n (book_of d) (place n (book_of d)))) d d' d'' p.lines p'.lines p''.lines p.written p'.written p''.written (omega (arith, wide)) first
+      (subst (λ b. Comes (capacity d) (enters_as v o b) d' p' d'' p'') out.book c) in
+      let later = ready_later (capacity d) (enters_as v o (book_of d')) d' d'' p'.lines p''.lines p'.written p''.written (length p.lines) 1 (enters_fits v o (book_of d')) room_again c in
       let same = same_capacity (capacity d) d d'' whole.beyond in
       record {
         came = whole;

@@ -1,5 +1,5 @@
 -- An amendment has come about.
-use Rattle.std.proofs.Common.{◌≡◌, ℕ, ◌≤◌, true, false, cond, eqb, leb, List, length, sym, ap, ◌∙◌, arith}
+use Rattle.std.proofs.Common.{◌≡◌, ℕ, ◌+◌, ◌≤◌, true, false, cond, eqb, leb, List, length, sym, ap, ◌∙◌, arith}
 use Rattle.std.proofs.lemmas.Bool.{and_parts, leb-true}
 use Rattle.rules.specs.declared.order.Order.{Order}
 use Rattle.trading.specs.declared.answer.Outcome.TheVariants.{PriorityKept, PriorityLost}
@@ -11,14 +11,15 @@ use Rattle.trading.specs.Effects.{Effect, plainly}
 use Rattle.trading.specs.Calls.{place, keeps_priority, cut, enters_again, amended, amend_at, amend_effect, effect_of}
 use Rattle.trading.specs.Desks.{Desk, book_of, capacity}
 use Rattle.trading.specs.Carried.{Took}
-use Rattle.trading.specs.Moves.{Came}
 use Rattle.checks.specs.Ground.{Standing as Sound}
 use Rattle.book.specs.declared.finding.Spot.{Spot}
 use Rattle.book.specs.declared.finding.Spot.TheVariants.{Buys, Sells, Stops}
 use Rattle.book.specs.declared.amendment.Standing.{Standing}
 use Rattle.book.specs.Finding.{AtSpot}
+use Rattle.lent.specs.Contents.{Page}
+use Rattle.lent.specs.Moves.{Comes}
 use Rattle.book.specs.Amending.{place_as, Stands, AgainCame}
-use Rattle.book.proofs.Coming.{released_took}
+use Rattle.book.proofs.Coming.{Fresh, told, released_took}
 
 -- an order that keeps its priority grows by nothing
 pub no_more : (o : Order) (limit quantity : ℕ) → keeps_priority o limit quantity ≡ true → quantity ≤ o.«open»
@@ -38,21 +39,21 @@ module _ (v : Venue) (n limit quantity : ℕ) (x : Standing) where
       by_spot (Sells i) at is = ap (amend_at v n limit quantity b) is ∙ sym (ap (λ at. amended v n limit quantity b at o) is)
       by_spot (Stops i) at is = absurd (let p = at.1 blank_stop in let z : ◌≡◌ {A = ℕ} 0 1 = cc in omega arith)
 
-  module _ (d d' d'' : Desk) (report report' report'' : List ReportLine) (at end : ℕ) (s : Sound d (length report)) (stands : Stands n (book_of d) x) (released : Came (capacity d') (release_all v (book_of d')) d' report' at d'' report'' end) where
+  module _ (d d' d'' : Desk) (report : List ReportLine) (p p' p'' : Page) (s : Sound d (length report)) (fresh : Fresh report p) (stands : Stands n (book_of d) x) (released : Comes (capacity d') (release_all v (book_of d')) d' p' d'' p'') where
     abbrev kept : Effect
     kept = plainly PriorityKept (then_released v (cut n quantity (book_of d) (place n (book_of d)) o))
 
     abbrev lost : Effect
     lost = plainly PriorityLost (then_released v (enters_again v n limit quantity (book_of d) (place n (book_of d)) o))
 
-    pub kept_took : keeps_priority o limit quantity ≡ true → at ≤ 1 → Came (capacity d) (cut n quantity (book_of d) (place n (book_of d)) o) d report 0 d' report' at
-        → Took (effect_of v (book_of d) (Amend n limit quantity)) d report (record { outcome = PriorityKept; lines = end; phase = d''.state.phase }) d'' report''
+    pub kept_took : keeps_priority o limit quantity ≡ true → p'.written ≤ p.written + 1 → Comes (capacity d) (cut n quantity (book_of d) (place n (book_of d)) o) d p d' p'
+        → Took (effect_of v (book_of d) (Amend n limit quantity)) d report (told PriorityKept d'' p'') d'' p''.lines
     kept_took e few came =
-        released_took v (Amend n limit quantity) PriorityKept (cut n quantity (book_of d) (place n (book_of d)) o) d d' d'' report report' report'' at end s
+        released_took v (Amend n limit quantity) PriorityKept (cut n quantity (book_of d) (place n (book_of d)) o) d d' d'' report p p' p'' s fresh
         (amends_as (book_of d) stands ∙ ap (λ k. cond k kept lost) e) (omega (arith, few, came.place, s.wide)) came released
 
-    pub lost_took : keeps_priority o limit quantity ≡ false → AgainCame v n limit quantity o d report d' report' at
-        → Took (effect_of v (book_of d) (Amend n limit quantity)) d report (record { outcome = PriorityLost; lines = end; phase = d''.state.phase }) d'' report''
+    pub lost_took : keeps_priority o limit quantity ≡ false → AgainCame v n limit quantity o d p d' p'
+        → Took (effect_of v (book_of d) (Amend n limit quantity)) d report (told PriorityLost d'' p'') d'' p''.lines
     lost_took e again =
-        released_took v (Amend n limit quantity) PriorityLost (enters_again v n limit quantity (book_of d) (place n (book_of d)) o) d d' d'' report report' report'' at end s
-        (amends_as (book_of d) stands ∙ ap (λ k. cond k kept lost) e) (omega (arith, again.ready.lines, again.came.place)) again.came released
+        released_took v (Amend n limit quantity) PriorityLost (enters_again v n limit quantity (book_of d) (place n (book_of d)) o) d d' d'' report p p' p'' s fresh
+        (amends_as (book_of d) stands ∙ ap (λ k. cond k kept lost) e) (omega (arith, again.ready.lines, again.came.place, ap length fresh.lines)) again.came released

@@ -1,5 +1,5 @@
 -- What a call answers, by its checks and by what has come about.
-use Rattle.std.proofs.Common.{◌≡◌, ◌<◌, ◌≤◌, false, List, [], ◌∷◌, ◌++◌, length, set, Some, None, Ok, Err, sym, refl, ap, ◌∙◌, arith}
+use Rattle.std.proofs.Common.{◌≡◌, ℕ, Bool, ◌<◌, ◌≤◌, false, List, [], ◌∷◌, ◌++◌, length, set, Some, None, Ok, Err, sym, refl, ap, ◌∙◌, arith}
 use Rattle.std.proofs.lemmas.List.{append-nil}
 use Rattle.std.proofs.lemmas.List.Sorted.{IsPermutation-refl}
 use Rattle.trading.specs.declared.answer.Answer.{Answer}
@@ -9,7 +9,10 @@ use Rattle.trading.specs.declared.report.ReportLine.{ReportLine}
 use Rattle.trading.specs.declared.request.Request.{Request}
 use Rattle.trading.specs.declared.state.Phase.{Phase}
 use Rattle.trading.specs.declared.state.Phase.TheVariants.{Call as CallPhase, Continuous, Ended}
-use Rattle.trading.specs.Books.{Venue, is_call, is_ended, is_continuous}
+use Rattle.grid.specs.Neighbours.{Priced}
+use Rattle.sessions.specs.Made.{Made}
+use Rattle.sessions.proofs.Making.{made}
+use Rattle.trading.specs.Books.{Venue, venue_of, is_call, is_ended, is_continuous}
 use Rattle.trading.specs.Sweeps.{Moved}
 use Rattle.trading.specs.Effects.{plainly}
 use Rattle.trading.specs.Calls.{first_fault, checks_of, effect_of}
@@ -30,6 +33,19 @@ module _ (v : Venue) (d : Desk) (request : Request) (report : List ReportLine) (
 
   pub taken_by : (a : Answer) (d' : Desk) (report' : List ReportLine) → first_fault (checks_of v (capacity d) (book_of d) request) ≡ None → Took (effect_of v (book_of d) request) d report a d' report' → Carried v d request report (Ok a) d' report'
   taken_by a d' report' e t = record { effect = effect_of v (book_of d) request; is = s.left v request ∙ ap (λ o. ruled o (effect_of v (book_of d) request)) e; took = t }
+
+-- ---- by the rules, and in every session
+
+module _ (lawful : ℕ → Bool) (allows : ℕ → ℕ → ℕ → Bool) (priced : Priced lawful) (d : Desk) (request : Request) (report : List ReportLine) where
+  pub made_refusing_all : (f : BookFault) → RefusesAll d (length report) f → Made lawful allows d request report (Err f) d report
+  made_refusing_all f r = made lawful allows priced d request report (Err f) d report (refuses_all (venue_of lawful allows) d request report f r)
+
+  pub made_turned : Standing d (length report) → (f : BookFault) → first_fault (checks_of (venue_of lawful allows) (capacity d) (book_of d) request) ≡ Some f → Made lawful allows d request report (Err f) d report
+  made_turned s f e = made lawful allows priced d request report (Err f) d report (turned (venue_of lawful allows) d request report s f e)
+
+  pub made_taken : Standing d (length report) → (a : Answer) (d' : Desk) (report' : List ReportLine) → first_fault (checks_of (venue_of lawful allows) (capacity d) (book_of d) request) ≡ None
+      → Took (effect_of (venue_of lawful allows) (book_of d) request) d report a d' report' → Made lawful allows d request report (Ok a) d' report'
+  made_taken s a d' report' e t = made lawful allows priced d request report (Ok a) d' report' (taken_by (venue_of lawful allows) d request report s a d' report' e t)
 
 -- a move that has come about is an effect that has
 pub plain_took : (outcome : Outcome) (m : Moved) (d : Desk) (report : List ReportLine) (a : Answer) (d' : Desk) (report' : List ReportLine)

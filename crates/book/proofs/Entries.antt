@@ -1,5 +1,5 @@
 -- Which check refuses an entry.
-use Rattle.std.proofs.Common.{◌≡◌, ℕ, Bool, true, false, cond, not, ◌&&◌, leb, List, [], ◌∷◌, ◌++◌, Some, None, Option, refl, arith}
+use Rattle.std.proofs.Common.{◌≡◌, ℕ, Bool, true, false, cond, not, ◌&&◌, leb, List, [], ◌∷◌, ◌++◌, Some, None, Option, is_some, refl, arith}
 use Rattle.trading.specs.declared.ticket.Ticket.{Ticket}
 use Rattle.trading.specs.declared.fault.BookFault.{BookFault}
 use Rattle.trading.specs.declared.fault.BookFault.TheVariants.{NumberLive, NoFirstTrade, BookFull}
@@ -7,7 +7,7 @@ use Rattle.trading.specs.Books.{Venue, Book, held, is_ioc, venue_of}
 use Rattle.trading.specs.Sweeps.{swept_by, reached}
 use Rattle.trading.specs.Calls.{Check, first_fault, place, nowhere, is_stop, stop_of, order_of, is_empty, is_somewhere, enter_checks}
 use Rattle.book.specs.declared.finding.Spot.{Spot}
-use Rattle.book.specs.Finding.{AtSpot}
+use Rattle.book.specs.Finding.{FoundBy}
 use Rattle.book.specs.Entering.{queue_checks}
 use Rattle.book.proofs.Cancels.{somewhere}
 use Rattle.checks.specs.Brought.{ticket_checks}
@@ -37,9 +37,18 @@ pub lacking : (ioc trades none : Bool) → ioc ≡ true → trades ≡ not none 
 lacking ioc trades true i e = rw (i, e)
 lacking ioc trades false i e = rw (i, e)
 
+-- a number that is found is somewhere, one that is not is nowhere
+pub found_some : (n : ℕ) (b : Book) (r : Option Spot) → FoundBy n b r → is_some r ≡ true → is_somewhere (place n b) ≡ true
+found_some n b None f e = absurd (let z : ◌≡◌ {A = ℕ} 0 1 = cc in omega arith)
+found_some n b (Some spot) f e = somewhere n b spot f
+
+pub found_none : (n : ℕ) (b : Book) (r : Option Spot) → FoundBy n b r → is_some r ≡ false → place n b ≡ nowhere
+found_none n b None f e = f
+found_none n b (Some spot) f e = absurd (let z : ◌≡◌ {A = ℕ} 0 1 = cc in omega arith)
+
 module _ (v : Venue) (n : ℕ) (t : Ticket) (b : Book) where
-  pub no_entry_live : (spot : Spot) → AtSpot t.number b spot → first_fault (queue_checks v n t b) ≡ Some NumberLive
-  no_entry_live spot at = let h = somewhere t.number b spot at in rw h
+  pub no_entry_live : is_somewhere (place t.number b) ≡ true → first_fault (queue_checks v n t b) ≡ Some NumberLive
+  no_entry_live h = rw h
 
   pub no_first_trade : place t.number b ≡ nowhere → leb n (held b) ≡ false → is_stop t.kind && reached b.last (stop_of t) ≡ false
       → is_ioc t.validity && is_empty (swept_by v (order_of t) b).trades ≡ true → first_fault (queue_checks v n t b) ≡ Some NoFirstTrade

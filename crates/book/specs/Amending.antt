@@ -1,14 +1,14 @@
 -- An order that is to be amended, as code finds it.
-use Rattle.std.specs.Prelude.{◌≡◌, ℕ, ◌<◌, ◌≤◌, List, length, Some, None, Result, MatchResult, slice_set}
+use Rattle.std.specs.Prelude.{◌≡◌, ℕ, ◌+◌, ◌<◌, ◌≤◌, List, length, Some, None, Result, MatchResult, slice_set}
 use Rattle.rules.specs.declared.order.Order.{Order}
 use Rattle.trading.specs.declared.fault.BookFault.{BookFault}
 use Rattle.trading.specs.Books.{Book, Venue}
 use Rattle.trading.specs.declared.report.ReportLine.{ReportLine}
-use Rattle.trading.specs.declared.state.State.{State}
-use Rattle.trading.specs.declared.stop.StopOrder.{StopOrder}
 use Rattle.trading.specs.Calls.{Place, nowhere, in_buys, in_sells, place, first_fault, amend_checks, cut, enters_again}
 use Rattle.trading.specs.Desks.{Desk, desk_of, book_of, capacity}
-use Rattle.trading.specs.Moves.{Ready, Came}
+use Rattle.trading.specs.Moves.{written_at, Ready}
+use Rattle.lent.specs.Contents.{Page}
+use Rattle.lent.specs.Moves.{Comes}
 use Rattle.book.specs.declared.finding.Spot.{Spot}
 use Rattle.book.specs.declared.finding.Spot.TheVariants.{Buys, Sells, Stops}
 use Rattle.book.specs.declared.amendment.Standing.{Standing}
@@ -31,29 +31,29 @@ MayAmend v n limit quantity b r =
     MatchResult r (λ x. (first_fault (amend_checks v n limit quantity b) ≡ None) × Stands n b x) (λ f. first_fault (amend_checks v n limit quantity b) ≡ Some f)
 
 -- a spot of an order lies in its table
-abbrev pub Inside : Spot → List Order → List Order → Type 0
-Inside (Buys i) buys sells = i < length buys
-Inside (Sells i) buys sells = i < length sells
-Inside (Stops i) buys sells = ⊥
+abbrev pub Inside : Spot → Desk → Type 0
+Inside (Buys i) d = i < length d.buys
+Inside (Sells i) d = i < length d.sells
+Inside (Stops i) d = ⊥
 
--- the two tables of orders with an order put at a spot
-abbrev pub buys_with : Spot → Order → List Order → List Order
-buys_with (Buys i) o buys = slice_set buys i o
-buys_with (Sells i) o buys = buys
-buys_with (Stops i) o buys = buys
+-- the desk with an order put at a spot
+abbrev pub desk_with : Spot → Order → Desk → Desk
+desk_with (Buys i) o d = desk_of d.state (slice_set d.buys i o) d.sells d.stops
+desk_with (Sells i) o d = desk_of d.state d.buys (slice_set d.sells i o) d.stops
+desk_with (Stops i) o d = d
 
-abbrev pub sells_with : Spot → Order → List Order → List Order
-sells_with (Buys i) o sells = sells
-sells_with (Sells i) o sells = slice_set sells i o
-sells_with (Stops i) o sells = sells
+-- these lines follow those that were written: the page p became p'
+pub record WroteAll (lines : List ReportLine) (p p' : Page) : Type 0 where
+  pub page : p'.lines ≡ written_at p.lines p.written lines
+  pub place : p'.written ≡ p.written + length lines
 
--- the order that stands under n has been cut to a quantity, whatever stops stand in the book
-pub record CutCame (n quantity : ℕ) (x : Standing) (s : State) (buys sells : List Order) (report : List ReportLine) (buys' sells' : List Order) (report' : List ReportLine) (end : ℕ) : Type 0 where
-  pub came : (stops : List StopOrder) → Fit (desk_of s buys sells stops) → Stands n (book_of (desk_of s buys sells stops)) x
-      → Came (capacity (desk_of s buys sells stops)) (cut n quantity (book_of (desk_of s buys sells stops)) (place n (book_of (desk_of s buys sells stops))) x.order) (desk_of s buys sells stops) report 0 (desk_of s buys' sells' stops) report' end
-  pub few : end ≤ 1
+-- the order that stands under n has been cut to a quantity
+pub record CutCame (n quantity : ℕ) (x : Standing) (d : Desk) (p : Page) (d' : Desk) (p' : Page) : Type 0 where
+  pub came : Fit d → Stands n (book_of d) x → Comes (capacity d) (cut n quantity (book_of d) (place n (book_of d)) x.order) d p d' p'
+  pub few : p'.written ≤ p.written + 1
+  pub state : d'.state ≡ d.state
 
 -- it has entered again, and there is room for the release of stops
-pub record AgainCame (v : Venue) (n limit quantity : ℕ) (o : Order) (d : Desk) (report : List ReportLine) (d' : Desk) (report' : List ReportLine) (end : ℕ) : Type 0 where
-  pub came : Came (capacity d) (enters_again v n limit quantity (book_of d) (place n (book_of d)) o) d report 0 d' report' end
-  pub ready : Ready (capacity d') d' (length report) end 0
+pub record AgainCame (v : Venue) (n limit quantity : ℕ) (o : Order) (d : Desk) (p : Page) (d' : Desk) (p' : Page) : Type 0 where
+  pub came : Comes (capacity d) (enters_again v n limit quantity (book_of d) (place n (book_of d)) o) d p d' p'
+  pub ready : Ready (capacity d') d' (length p.lines) p'.written 0

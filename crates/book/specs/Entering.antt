@@ -1,11 +1,10 @@
 -- The checks of an entry that look at the queues, and what an entry comes to.
-use Rattle.std.specs.Prelude.{ℕ, ◌&&◌, List, [], ◌∷◌, nat_le}
-use Rattle.rules.specs.declared.order.Order.{Order}
-use Rattle.trading.specs.declared.report.ReportLine.{ReportLine}
-use Rattle.trading.specs.declared.state.State.{State}
+use Rattle.std.specs.Prelude.{◌≡◌, ℕ, ◌&&◌, List, [], ◌∷◌, nat_le}
 use Rattle.trading.specs.declared.stop.StopOrder.{StopOrder}
-use Rattle.trading.specs.Desks.{desk_of, book_of}
-use Rattle.trading.specs.Moves.{Ready, Came}
+use Rattle.trading.specs.Desks.{Desk, book_of}
+use Rattle.trading.specs.Moves.{Ready}
+use Rattle.lent.specs.Contents.{Page}
+use Rattle.lent.specs.Moves.{Comes}
 use Rattle.trading.specs.declared.ticket.Ticket.{Ticket}
 use Rattle.trading.specs.declared.fault.BookFault.TheVariants.{NumberLive, BookFull, StopReached, NoFirstTrade}
 use Rattle.trading.specs.Books.{Venue, Book, held, is_ioc}
@@ -21,6 +20,9 @@ queue_checks v n t b =
     ∷ (check (is_ioc t.validity && is_empty (swept_by v (order_of t) b).trades) NoFirstTrade
     ∷ [])))
 
--- a stop has joined, in a book that was ready for one record more, whatever orders stand in it; no line was written
-pub record StopCame (stop : StopOrder) (s : State) (stops : List StopOrder) (s' : State) (stops' : List StopOrder) : Type 0 where
-  pub came : (buys sells : List Order) (report : List ReportLine) (n room at : ℕ) → Ready n (desk_of s buys sells stops) room at 1 → Came n (stop_joins stop (book_of (desk_of s buys sells stops))) (desk_of s buys sells stops) report at (desk_of s' buys sells stops') report at
+-- a stop has joined, in a book that was ready for one record more, and the tables of orders stay; no line was written, whatever
+-- the report holds
+pub record StopCame (stop : StopOrder) (d d' : Desk) : Type 0 where
+  pub came : (p : Page) (n room from : ℕ) → Ready n d room from 1 → Comes n (stop_joins stop (book_of d)) d p d' p
+  pub buys : d'.buys ≡ d.buys
+  pub sells : d'.sells ≡ d.sells

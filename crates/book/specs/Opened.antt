@@ -1,14 +1,14 @@
 -- What an uncrossing comes to, as code carries it out.
-use Rattle.std.specs.Prelude.{ℕ, Bool, List}
+use Rattle.std.specs.Prelude.{ℕ, Bool}
 use Rattle.rules.specs.declared.opening.Opening.{Opening}
 use Rattle.rules.specs.Candidates.{Grid}
-use Rattle.trading.specs.declared.report.ReportLine.{ReportLine}
 use Rattle.trading.specs.declared.request.Next.{Next}
 use Rattle.trading.specs.Sweeps.{Moved, moved}
 use Rattle.trading.specs.Effects.{Effect, lines_of}
 use Rattle.trading.specs.Uncrossings.{uncrossed_as}
 use Rattle.trading.specs.Desks.{Desk, book_of, capacity}
-use Rattle.trading.specs.Moves.{Came}
+use Rattle.lent.specs.Contents.{Page}
+use Rattle.lent.specs.Moves.{Comes}
 use Rattle.sweeping.specs.Beside.{venue}
 
 -- an effect as one move, its free lines in their own order
@@ -16,6 +16,6 @@ abbrev pub wholly : Effect → Moved
 wholly e = moved e.book (lines_of e)
 
 -- an opening was carried out, on whatever grid
-abbrev pub OpeningCame : (ℕ → ℕ → ℕ → Bool) → Next → Opening → Desk → List ReportLine → Desk → List ReportLine → ℕ → Type 0
-OpeningCame allows next opening d report d' report' end =
-    (g : Grid) → Came (capacity d) (wholly (uncrossed_as (venue g allows) next (book_of d) opening)) d report 0 d' report' end
+abbrev pub OpeningCame : (ℕ → ℕ → ℕ → Bool) → Next → Opening → Desk → Page → Desk → Page → Type 0
+OpeningCame allows next opening d p d' p' =
+    (g : Grid) → Comes (capacity d) (wholly (uncrossed_as (venue g allows) next (book_of d) opening)) d p d' p'

@@ -1,29 +1,22 @@
 // From continuous trading to a call.
-ghost use Rattle.trading.specs.Desks.{desk_of};
+ghost use Rattle.lent.specs.Contents.{contents, DeskKept};
 ghost use Rattle.trading.specs.declared.request.Request.TheVariants.{Call};
 ghost use Rattle.book.specs.Anywhere.{MadeAnywhere};
 
 use checks::check_ground;
-use rules::Order;
-use trading::{Answer, BookFault, Outcome, Phase, ReportLine, State, StopOrder};
+use lent::Desk;
+use trading::{Answer, BookFault, Outcome, Phase, ReportLine};
 
 // The book stops trading and gathers orders for an uncrossing.
-pub fn call(
-    state: &mut State,
-    buys: &mut [Order],
-    sells: &mut [Order],
-    stops: &mut [StopOrder],
-    report: &mut [ReportLine],
-) -> Result<Answer, BookFault>
-    ensures { let d = desk_of state.old buys.old sells.old stops.old in
-        let d' = desk_of state.new buys.new sells.new stops.new in
-        MadeAnywhere d Call report.old result d' report.new }
+pub fn call(desk: &mut Desk<'_>, report: &mut [ReportLine]) -> Result<Answer, BookFault>
+    ensures made { MadeAnywhere (contents desk.old) Call report.old result (contents desk.new) report.new }
+    ensures kept { DeskKept desk.old desk.new }
 {
-    check_ground(*state, buys, sells, stops, report)?;
-    let Phase::Continuous = state.phase else {
+    check_ground(desk, report)?;
+    let Phase::Continuous = desk.state.phase else {
         return Err(BookFault::WrongPhase);
     };
-    state.phase = Phase::Call;
+    desk.state.phase = Phase::Call;
     Ok(Answer {
         outcome: Outcome::Accepted,
         lines: 0,

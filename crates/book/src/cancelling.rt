@@ -1,42 +1,38 @@
 // Cancelling an order or a stop.
-ghost use Rattle.trading.specs.Desks.{desk_of};
+ghost use Rattle.lent.specs.Contents.{contents, DeskKept};
 ghost use Rattle.trading.specs.declared.request.Request.TheVariants.{Cancel};
 ghost use Rattle.book.specs.Anywhere.{MadeAnywhere};
 
 use crate::finding::find_record;
 use crate::leaving::take_out;
 use checks::{check_ground, is_number};
-use rules::Order;
-use trading::{Answer, BookFault, Outcome, Phase, ReportLine, State, StopOrder};
+use lent::Desk;
+use trading::{Answer, BookFault, Outcome, Phase, ReportLine};
 
 // The first record with the number leaves its queue; its quantity lapses.
 pub fn cancel(
-    state: &mut State,
-    buys: &mut [Order],
-    sells: &mut [Order],
-    stops: &mut [StopOrder],
+    desk: &mut Desk<'_>,
     report: &mut [ReportLine],
     number: u32,
 ) -> Result<Answer, BookFault>
-    ensures { let d = desk_of state.old buys.old sells.old stops.old in
-        let d' = desk_of state.new buys.new sells.new stops.new in
-        MadeAnywhere d (Cancel number) report.old result d' report.new }
+    ensures made { MadeAnywhere (contents desk.old) (Cancel number) report.old result (contents desk.new) report.new }
+    ensures kept { DeskKept desk.old desk.new }
 {
-    check_ground(*state, buys, sells, stops, report)?;
-    if let Phase::Ended = state.phase {
+    check_ground(desk, report)?;
+    if let Phase::Ended = desk.state.phase {
         return Err(BookFault::WrongPhase);
     }
     if !is_number(number) {
         return Err(BookFault::NumberOutOfRange);
     }
-    let Some(spot) = find_record(*state, buys, sells, stops, number) else {
+    let Some(spot) = find_record(desk, number) else {
         return Err(BookFault::NumberNotLive);
     };
-    let quantity = take_out(state, buys, sells, stops, spot);
+    let quantity = take_out(desk, spot);
     report[0] = ReportLine::Lapse { number, quantity };
     Ok(Answer {
         outcome: Outcome::Accepted,
         lines: 1,
-        phase: state.phase,
+        phase: desk.state.phase,
     })
 }

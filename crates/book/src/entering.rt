@@ -4,107 +4,94 @@ ghost use Rattle.rules.specs.Candidates.{Grid};
 ghost use Rattle.trading.specs.declared.request.Request.TheVariants.{Enter};
 ghost use Rattle.trading.specs.Books.{is_continuous, is_vfu};
 ghost use Rattle.trading.specs.Calls.{enters_as, entered};
-ghost use Rattle.trading.specs.Desks.{desk_of, book_of, capacity};
-ghost use Rattle.trading.specs.Moves.{Ready, Came};
+ghost use Rattle.trading.specs.Desks.{book_of, capacity};
+ghost use Rattle.lent.specs.Contents.{contents, page, DeskKept, Kept};
+ghost use Rattle.lent.specs.Moves.{ReadyFor, Comes};
 ghost use Rattle.sessions.specs.Made.{Made};
-ghost use Rattle.sweeping.specs.Beside.{venue, Roomy, CameBeside};
+ghost use Rattle.sweeping.specs.Beside.{venue, Roomy, Moves};
 ghost use Rattle.book.specs.Entering.{StopCame};
 
-use crate::entry::{check_queues, is_stop, order_of, stop_of};
+use crate::answering::answer;
+use crate::entry::{check_queues, is_stop};
 use checks::{check_ground, check_ticket};
 use collar::Collar;
 use grid::PriceGrid;
+use lent::{Desk, Report};
 use queue::join_table;
 use rules::{Order, Validity};
 use sweeping::{join_order, release_stops, sweep_order};
-use trading::{Answer, BookFault, Outcome, Phase, ReportLine, State, StopOrder, Ticket};
+use trading::{Answer, BookFault, Outcome, Phase, ReportLine, StopOrder, Ticket};
 
 // Whether an order that enters sweeps at once; else it only joins its queue.
 fn sweeps_at_once(phase: Phase, validity: Validity) -> bool
     ensures { result ≡ is_continuous phase && not (is_vfu validity) }
 {
-    match (phase, validity) {
-        (Phase::Continuous, Validity::Day) => true,
-        (Phase::Continuous, Validity::Ioc) => true,
-        (_, _) => false,
-    }
+    matches!(phase, Phase::Continuous) && !matches!(validity, Validity::Vfu)
 }
 
-// An order enters. Its lines go to the report, from the place `at` on; answers the place after them.
+// An order enters.
 pub fn enter_order<C: Collar>(
     collar: &C,
-    state: &mut State,
-    buys: &mut [Order],
-    sells: &mut [Order],
-    report: &mut [ReportLine],
-    at: usize,
+    desk: &mut Desk<'_>,
+    report: &mut Report<'_>,
     order: Order,
-) -> usize
-    requires { Roomy state.old buys.old sells.old (length report.old) at }
-    ensures { (g : Grid) → CameBeside (enters_as (venue g (C.allows collar.now)) order) state.old buys.old sells.old report.old at state.new buys.new sells.new report.new result }
+)
+    requires { Roomy (contents desk.old) (page report.old) }
+    ensures entered { (g : Grid) → Moves (enters_as (venue g (C.allows collar.now)) order) (contents desk.old) (page report.old) (contents desk.new) (page report.new) }
+    ensures kept { Kept desk.old report.old desk.new report.new }
 {
-    if sweeps_at_once(state.phase, order.validity) {
-        return sweep_order(collar, state, buys, sells, report, at, order);
+    if sweeps_at_once(desk.state.phase, order.validity) {
+        sweep_order(collar, desk, report, order);
+    } else {
+        join_order(desk, order);
     }
-    join_order(state, buys, sells, order);
-    at
 }
 
 // A stop joins the stops.
-fn join_stop(state: &mut State, stops: &mut [StopOrder], stop: StopOrder)
-    requires { state.old.stops < length stops.old }
-    ensures { StopCame stop state.old stops.old state.new stops.new }
+fn join_stop(desk: &mut Desk<'_>, stop: StopOrder)
+    requires { desk.old.state.now.stops < length desk.old.stops.now }
+    ensures joined { StopCame stop (contents desk.old) (contents desk.new) }
+    ensures kept { DeskKept desk.old desk.new }
 {
-    join_table(stops, state.stops, stop);
-    state.stops += 1;
+    join_table(desk.stops, desk.state.stops, stop);
+    desk.state.stops += 1;
 }
 
-// A ticket enters as a stop or as an order. Answers how many lines it wrote.
+// A ticket enters as a stop or as an order.
 fn enter_ticket<C: Collar>(
     collar: &C,
-    state: &mut State,
-    buys: &mut [Order],
-    sells: &mut [Order],
-    stops: &mut [StopOrder],
-    report: &mut [ReportLine],
+    desk: &mut Desk<'_>,
+    report: &mut Report<'_>,
     ticket: Ticket,
-) -> usize
-    requires { let d = desk_of state.old buys.old sells.old stops.old in
-        Ready (capacity d) d (length report.old) 0 1 }
-    ensures { let d = desk_of state.old buys.old sells.old stops.old in
-        let d' = desk_of state.new buys.new sells.new stops.new in
-        ((g : Grid) → Came (capacity d) (entered (venue g (C.allows collar.now)) ticket (book_of d)) d report.old 0 d' report.new result) }
+)
+    requires { ReadyFor 1 (contents desk.old) (page report.old) }
+    ensures entered { let d = contents desk.old in
+        ((g : Grid) → Comes (capacity d) (entered (venue g (C.allows collar.now)) ticket (book_of d)) d (page report.old) (contents desk.new) (page report.new)) }
+    ensures kept { Kept desk.old report.old desk.new report.new }
 {
     if is_stop(ticket.kind) {
-        join_stop(state, stops, stop_of(ticket));
-        return 0;
+        join_stop(desk, StopOrder::from(ticket));
+    } else {
+        enter_order(collar, desk, report, Order::from(ticket));
     }
-    enter_order(collar, state, buys, sells, report, 0, order_of(ticket))
 }
 
 // A ticket enters, and stops are released.
 pub fn enter<G: PriceGrid, C: Collar>(
     grid: &G,
     collar: &C,
-    state: &mut State,
-    buys: &mut [Order],
-    sells: &mut [Order],
-    stops: &mut [StopOrder],
+    desk: &mut Desk<'_>,
     report: &mut [ReportLine],
     ticket: Ticket,
 ) -> Result<Answer, BookFault>
-    ensures { let d = desk_of state.old buys.old sells.old stops.old in
-        let d' = desk_of state.new buys.new sells.new stops.new in
-        Made (G.lawful grid.now) (C.allows collar.now) d (Enter ticket) report.old result d' report.new }
+    ensures made { Made (G.lawful grid.now) (C.allows collar.now) (contents desk.old) (Enter ticket) report.old result (contents desk.new) report.new }
+    ensures kept { DeskKept desk.old desk.new }
 {
-    check_ground(*state, buys, sells, stops, report)?;
-    check_ticket(grid, state.phase, ticket)?;
-    check_queues(collar, *state, buys, sells, stops, ticket)?;
-    let at = enter_ticket(collar, state, buys, sells, stops, report, ticket);
-    let lines = release_stops(collar, state, buys, sells, stops, report, at);
-    Ok(Answer {
-        outcome: Outcome::Accepted,
-        lines,
-        phase: state.phase,
-    })
+    check_ground(desk, report)?;
+    check_ticket(grid, desk.state.phase, ticket)?;
+    check_queues(collar, desk, ticket)?;
+    let mut lines = Report::new(report);
+    enter_ticket(collar, desk, &mut lines, ticket);
+    release_stops(collar, desk, &mut lines);
+    Ok(answer(desk, &lines, Outcome::Accepted))
 }

@@ -1,12 +1,11 @@
 // Where a record with a number stands.
-ghost use Rattle.std.specs.Prelude.{◌≡◌, ◌≤◌, length};
-ghost use Rattle.trading.specs.Desks.{desk_of, book_of};
-ghost use Rattle.trading.specs.Calls.{place};
+ghost use Rattle.trading.specs.Desks.{book_of};
+ghost use Rattle.trading.specs.Carried.{CountsFit};
+ghost use Rattle.lent.specs.Contents.{contents};
 ghost use Rattle.book.specs.Finding.{FoundBy};
 
+use lent::Desk;
 use queue::find_number;
-use rules::Order;
-use trading::{State, StopOrder};
 
 // A place in one of the three queues.
 #[derive(Clone, Copy)]
@@ -17,28 +16,17 @@ pub enum Spot {
 }
 
 // The first record with the number, looked for in buys, then sells, then stops.
-pub fn find_record(
-    state: State,
-    buys: &[Order],
-    sells: &[Order],
-    stops: &[StopOrder],
-    number: u32,
-) -> Option<Spot>
-    requires buys { state.buys ≤ length buys.now }
-    requires sells { state.sells ≤ length sells.now }
-    requires stops { state.stops ≤ length stops.now }
-    ensures { FoundBy number (book_of (desk_of state buys.now sells.now stops.now)) result }
+pub fn find_record(desk: &Desk<'_>, number: u32) -> Option<Spot>
+    requires { CountsFit (contents desk.now) }
+    ensures { FoundBy number (book_of (contents desk.now)) result }
 {
-    let bought = state.buys;
-    let sold = state.sells;
-    let stopped = state.stops;
-    if let Some(i) = find_number(&buys[0..bought], number) {
+    if let Some(i) = find_number(&desk.buys[0..desk.state.buys], number) {
         return Some(Spot::Buys(i));
     }
-    if let Some(i) = find_number(&sells[0..sold], number) {
+    if let Some(i) = find_number(&desk.sells[0..desk.state.sells], number) {
         return Some(Spot::Sells(i));
     }
-    if let Some(i) = find_number(&stops[0..stopped], number) {
+    if let Some(i) = find_number(&desk.stops[0..desk.state.stops], number) {
         return Some(Spot::Stops(i));
     }
     None

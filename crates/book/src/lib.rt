@@ -4,21 +4,22 @@
 
 mod amending;
 mod amendment;
+mod answering;
 mod calling;
 mod cancelling;
-mod crossing;
-mod ending;
+//mod crossing;
+//mod ending;
 mod entering;
 mod entry;
 mod finding;
 mod leaving;
 mod making;
-mod opening;
+//mod opening;
 
 pub use amending::amend;
 pub use calling::call;
 pub use cancelling::cancel;
-pub use crossing::uncross;
-pub use ending::end;
+//pub use crossing::uncross;
+//pub use ending::end;
 pub use entering::enter;
 pub use making::new_book;

@@ -1,16 +1,20 @@
-use Rattle.trading.specs.Desks.{desk_of, capacity}
+use Rattle.std.proofs.Common.{length}
+use Rattle.trading.specs.Desks.{capacity}
+use Rattle.lent.specs.Contents.{contents, page}
 use Rattle.sweeping.specs.Beside.{venue}
 use Rattle.book.proofs.Again.{room_again, came_again}
 use Rattle.book.proofs.amending.enter_again.Goals as goal
 
-pub returns : goal.returns
-returns g c = λ grid.
-    let d = desk_of c.args.state.now c.args.buys.now c.args.sells.now c.args.stops.now in
+pub returns-clause-again : goal.returns-clause-again
+returns-clause-again g c = λ grid.
+    let d = contents c.args.desk.now in
+    let p = page c.args.report.now in
     let t = c.take_out-lapsed in
+    let w = c.write in
     let x = c.enter_order in
-    let d' = desk_of t.new.state t.new.buys t.new.sells t.new.stops in
-    let d'' = desk_of x.new.state x.new.buys x.new.sells t.new.stops in
-    let out = t.ensures c.args.number c.requires.stands.at in
-    came_again c.args.number t.result d d' c.args.standing c.args.report.now c.requires.fit c.requires.stands c.requires.wide out
-    (venue grid (g.C.Collar.allows c.args.collar.now)) c.args.limit c.args.quantity d'' x.new.report x.result
-    ((x.ensures grid).came t.new.stops (capacity d) _ _ (room_again c.args.number t.result d d' c.args.standing c.args.report.now c.requires.fit c.requires.stands c.requires.wide out))
+    let d' = contents t.new.desk in
+    let p' = page w.new.self in
+    let out = t.ensures.out c.args.number c.requires.stands.at in
+    came_again c.args.number t.result d d' c.args.standing p p' c.requires.fit c.requires.stands c.requires.wide out w.ensures.line w.ensures.written
+    (venue grid (g.C.Collar.allows c.args.collar.now)) c.args.limit c.args.quantity (contents x.new.desk) (page x.new.report)
+    ((x.ensures.entered grid).came (capacity d) (length p.lines) p'.written (room_again c.args.number t.result d d' c.args.standing p p' c.requires.fit c.requires.stands c.requires.wide out w.ensures.line w.ensures.written))

@@ -1,21 +1,21 @@
-use Rattle.std.proofs.Common.{sym}
-use Rattle.trading.specs.Desks.{desk_of, capacity}
+use Rattle.std.proofs.Common.{length, sym}
+use Rattle.trading.specs.Desks.{capacity}
+use Rattle.lent.specs.Contents.{contents, page}
 use Rattle.sweeping.specs.Beside.{venue}
 use Rattle.book.proofs.Enterings.{stop_entered, order_entered}
 use Rattle.book.proofs.entering.enter_ticket.Goals as goal
 
-pub returns-then-is_stop : goal.returns-then-is_stop
-returns-then-is_stop g c = λ grid.
-    let d = desk_of c.args.state.now c.args.buys.now c.args.sells.now c.args.stops.now in
-    let x = c.join_stop in
-    let d' = desk_of x.new.state c.args.buys.now c.args.sells.now x.new.stops in
-    stop_entered (capacity d) (venue grid (g.C.Collar.allows c.args.collar.now)) c.args.ticket d c.args.report.now d' c.args.report.now 0
-    c.stop_of.result (sym c.if-is_stop.ensures) c.stop_of.ensures (x.ensures.came c.args.buys.now c.args.sells.now c.args.report.now (capacity d) _ 0 c.requires)
+pub returns-then-is_stop-clause-entered : goal.returns-then-is_stop-clause-entered
+returns-then-is_stop-clause-entered g c = λ grid.
+    let d = contents c.args.desk.now in
+    let p = page c.args.report.now in
+    stop_entered (capacity d) (venue grid (g.C.Collar.allows c.args.collar.now)) c.args.ticket d p (contents c.join_stop.new.desk) p
+    c.from.result (sym c.if-is_stop.ensures) c.from.ensures (c.join_stop.ensures.joined.came p (capacity d) (length p.lines) p.written c.requires)
 
-pub returns : goal.returns
-returns g c = λ grid.
-    let d = desk_of c.args.state.now c.args.buys.now c.args.sells.now c.args.stops.now in
+pub returns-else-is_stop-clause-entered : goal.returns-else-is_stop-clause-entered
+returns-else-is_stop-clause-entered g c = λ grid.
+    let d = contents c.args.desk.now in
+    let p = page c.args.report.now in
     let x = c.enter_order in
-    let d' = desk_of x.new.state x.new.buys x.new.sells c.args.stops.now in
-    order_entered (capacity d) (venue grid (g.C.Collar.allows c.args.collar.now)) c.args.ticket d c.args.report.now d' x.new.report x.result
-    c.order_of.result (sym c.if-is_stop.ensures) c.order_of.ensures ((x.ensures grid).came c.args.stops.now (capacity d) _ 0 c.requires)
+    order_entered (capacity d) (venue grid (g.C.Collar.allows c.args.collar.now)) c.args.ticket d p (contents x.new.desk) (page x.new.report)
+    c.from-else-is_stop.result (sym c.if-is_stop.ensures) c.from-else-is_stop.ensures ((x.ensures.entered grid).came (capacity d) (length p.lines) p.written c.requires)
