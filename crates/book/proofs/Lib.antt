@@ -5,8 +5,8 @@ pub mod Cancels
 pub mod Begun
 pub mod Amends
 pub mod Coming
---pub mod Openings
---pub mod Crossings
+pub mod Openings
+pub mod Crossings
 pub mod Entries
 pub mod Enterings
 pub mod Cuts
