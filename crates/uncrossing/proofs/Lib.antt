@@ -1,6 +1,6 @@
 pub mod Spans
 pub mod Fronting
-pub mod Turns
 pub mod Written
+pub mod Turns
 pub mod Sieve
 pub mod Moving

@@ -1,6 +1,6 @@
 -- Pairing, turn by turn: the first buy and the first sell trade, until one of them does not accept.
 use Rattle.std.proofs.Common.{◌≡◌, ℕ, suc, ◌+◌, ◌-◌, ◌<◌, ◌≤◌, min, Bool, true, false, cond, leb, List, [], ◌∷◌, length, get_or, take, drop, set, sym, refl, ap, ◌∙◌, subst, inl, inr, add-one, arith}
-use lib.Seq.{sets, sets-eq}
+use lib.Seq.{sets}
 use Rattle.std.specs.List.{AllByRecursion}
 use Rattle.std.proofs.lemmas.List.{drop-set-lt, length-take}
 use Rattle.std.proofs.lemmas.Bool.{and_parts, and_cases, both_ways, cases_lt, cases_Bool, cond_both, lt-leb, le-leb, eq-eqb, ne_eqb, lt-ltb, le-ltb}
@@ -9,12 +9,16 @@ use Rattle.rules.specs.Accepts.{accepts_buying, accepts_selling}
 use Rattle.trading.specs.declared.report.ReportLine.{ReportLine}
 use Rattle.trading.specs.declared.report.ReportLine.TheVariants.{Trade}
 use Rattle.trading.specs.Books.{reduced}
+use Rattle.trading.specs.Desks.{Desk, desk_of}
 use Rattle.trading.specs.Uncrossings.{Paired, unpaired, keeping_buy, keeping_sell, paired, trade_at, meets, pairs}
+use Rattle.lent.specs.Contents.{Page}
 use Rattle.uncrossing.specs.declared.pairing.Met.{Met}
 use Rattle.uncrossing.specs.Spans.{span, blank_order}
 use Rattle.uncrossing.specs.Fronts.{Fronted, InFront}
-use Rattle.uncrossing.specs.Meetings.{firsts_meet, TookOff, MetBy}
-use Rattle.uncrossing.proofs.Spans.{span_cons, span_set}
+use Rattle.uncrossing.specs.Fits.{OrdersFit, QueuesStart, orders_left}
+use Rattle.uncrossing.specs.Meetings.{firsts_meet, paired_at, TookOff, MetBy}
+use Rattle.uncrossing.proofs.Spans.{span_cons, span_set, span_whole}
+use Rattle.uncrossing.proofs.Written.{sets_written}
 
 -- ---- the rule's pairing
 
@@ -136,81 +140,115 @@ front_less : (accepts : Order → Bool) → ((o : Order) (q : ℕ) → accepts (
 front_less accepts same o q os f =
     cond_both (leb o.«open» q) _ _ (Fronted accepts) (λ _. f.1) (λ _. (λ e. f.0 (sym (same o q) ∙ e), f.1))
 
--- the queues and the report that a pairing leads to, with its lines written from a place on
+-- the queues and the page that a pairing leads to, with its lines behind those of a page
 pub record Finish : Type 0 where
   pub buys : List Order
   pub sells : List Order
-  pub report : List ReportLine
-  pub at : ℕ
+  pub page : Page
 
-abbrev pub place_after : {X : Type 0} → ℕ → List X → ℕ
+abbrev place_after : ℕ → List ReportLine → ℕ
 place_after i [] = i
 place_after i (y ∷ ys) = place_after (suc i) ys
 
-abbrev pub finish : List ReportLine → ℕ → Paired → Finish
-finish report at r = record { buys = r.buys; sells = r.sells; report = sets report at r.trades; at = place_after at r.trades }
+abbrev pub finish : Page → Paired → Finish
+finish p r = record { buys = r.buys; sells = r.sells; page = record { lines = sets p.lines p.written r.trades; written = place_after p.written r.trades } }
 
-place_after_lem : {X : Type 0} (i : ℕ) (ys : List X) → place_after i ys ≡ i + length ys
-place_after_lem i [] = omega arith
-place_after_lem i (y ∷ ys) = omega (arith, place_after_lem (suc i) ys)
+place_after_is : (i : ℕ) (ys : List ReportLine) → place_after i ys ≡ i + length ys
+place_after_is i [] = omega arith
+place_after_is i (y ∷ ys) = omega (arith, place_after_is (suc i) ys)
+
+-- a pairing at p is under way: what is still to come leads where all of it leads
+pub record Pairing (p : ℕ) (d : Desk) (page : Page) (d' : Desk) (page' : Page) (met : Met) : Type 0 where
+  pub leads : finish page' (pairs p (span met.buys d'.state.buys d'.buys) (span met.sells d'.state.sells d'.sells)) ≡ finish page (paired_at p d)
+  pub fronts : InFront p (span met.buys d'.state.buys d'.buys) (span met.sells d'.state.sells d'.sells)
+  pub start : QueuesStart met d'
+  pub few : page'.written + orders_left met d.state ≤ page.written + (d.state.buys + d.state.sells)
+  pub buys_beyond : drop d.state.buys d'.buys ≡ drop d.state.buys d.buys
+  pub sells_beyond : drop d.state.sells d'.sells ≡ drop d.state.sells d.sells
+  pub stops : d'.stops ≡ d.stops
+  pub state : d'.state ≡ d.state
+
+pub starts : (p : ℕ) (d : Desk) (page : Page) → OrdersFit d page → InFront p (take d.state.buys d.buys) (take d.state.sells d.sells) → Pairing p d page d page (record { buys = 0; sells = 0 })
+starts p d page fit fronts =
+    let bs = span_whole d.buys d.state.buys in
+    let ss = span_whole d.sells d.state.sells in
+    record {
+      leads = rw (bs, ss);
+      fronts = rw (bs, ss) fronts;
+      start = record { buys_start = omega arith; sells_start = omega arith; buys = fit.buys; sells = fit.sells };
+      few = omega arith;
+      buys_beyond = refl;
+      sells_beyond = refl;
+      stops = refl;
+      state = refl;
+    }
 
 -- one turn
-module _ {xs xs' ys ys' : List Order} {i i' j j' q : ℕ} (p n m : ℕ) (ln : n ≤ length xs) (lm : m ≤ length ys)
-    (h : firsts_meet p (span i n xs) (span j m ys) ≡ true) (e : q ≡ min (get_or xs i blank_order).«open» (get_or ys j blank_order).«open»)
-    (tx : TookOff xs xs' i q i') (ty : TookOff ys ys' j q j') where
-  lt : (i < n) × (j < m)
-  lt = both_left p xs ys i n j m ln lm h
+module _ {p i j q : ℕ} {d d' : Desk} {page page' : Page} {met : Met} {buys sells : List Order} (h : Pairing p d page d' page' met)
+    (meet : firsts_meet p (span met.buys d'.state.buys d'.buys) (span met.sells d'.state.sells d'.sells) ≡ true)
+    (e : q ≡ min (get_or d'.buys met.buys blank_order).«open» (get_or d'.sells met.sells blank_order).«open»)
+    (tx : TookOff d'.buys buys met.buys q i) (ty : TookOff d'.sells sells met.sells q j) where
+  abbrev b : Order
+  b = get_or d'.buys met.buys blank_order
 
-  pub buys_off : Off xs xs' n i q i'
-  buys_off = off xs xs' n i q i' lt.0 ln tx
+  abbrev s : Order
+  s = get_or d'.sells met.sells blank_order
 
-  pub sells_off : Off ys ys' m j q j'
-  sells_off = off ys ys' m j q j' lt.1 lm ty
+  pub lt : (met.buys < d'.state.buys) × (met.sells < d'.state.sells)
+  lt = both_left p d'.buys d'.sells met.buys d'.state.buys met.sells d'.state.sells h.start.buys h.start.sells meet
+
+  buys_off : Off d'.buys buys d'.state.buys met.buys q i
+  buys_off = off d'.buys buys d'.state.buys met.buys q i lt.0 h.start.buys tx
+
+  sells_off : Off d'.sells sells d'.state.sells met.sells q j
+  sells_off = off d'.sells sells d'.state.sells met.sells q j lt.1 h.start.sells ty
 
   -- at least one of the two is used up
-  pub fewer : (n - i') + (m - j') < (n - i) + (m - j)
-  fewer = elim (cases_lt (get_or xs i blank_order).«open» (get_or ys j blank_order).«open») [
+  pub fewer : orders_left (record { buys = i; sells = j }) d'.state < orders_left met d'.state
+  fewer = elim (cases_lt b.«open» s.«open») [
     | inl k ↦ omega (arith, buys_off.gone (omega arith), sells_off.low, lt.0, lt.1)
     | inr k ↦ omega (arith, sells_off.gone (omega arith), buys_off.low, lt.0, lt.1)
   ]
 
-  pub turn : (report : List ReportLine) (at : ℕ)
-      → finish (set report at (Trade (get_or xs i blank_order).number (get_or ys j blank_order).number p q)) (at + 1) (pairs p (span i' n xs') (span j' m ys')) ≡ finish report at (pairs p (span i n xs) (span j m ys))
-  turn report at =
-      let b = get_or xs i blank_order in
-      let s = get_or ys j blank_order in
-      let bs = span_cons xs i n blank_order lt.0 ln in
-      let ss = span_cons ys j m blank_order lt.1 lm in
-      let met : firsts_meet p (b ∷ span (i + 1) n xs) (s ∷ span (j + 1) m ys) ≡ true = rw (bs, ss) at h in
+  pub turn : (page'' : Page) → page''.lines ≡ set page'.lines page'.written (Trade b.number s.number p q) → page''.written ≡ page'.written + 1 → length buys ≡ length d'.buys → length sells ≡ length d'.sells
+      → Pairing p d page (desk_of d'.state buys sells d'.stops) page'' (record { buys = i; sells = j })
+  turn page'' line place bl sl =
+      let bs = span_cons d'.buys met.buys d'.state.buys blank_order lt.0 h.start.buys in
+      let ss = span_cons d'.sells met.sells d'.state.sells blank_order lt.1 h.start.sells in
       let bq = buys_off.queue in
       let sq = sells_off.queue in
-      let go = pairs_trade p b s (span (i + 1) n xs) (span (j + 1) m ys) met in
-      rw (add-one, bq, sq, e, bs, ss, go)
-
-  pub still_in_front : InFront p (span i n xs) (span j m ys) → InFront p (span i' n xs') (span j' m ys')
-  still_in_front f = record {
-    buys = subst (Fronted (accepts_buying p)) (sym buys_off.queue) (front_less (accepts_buying p) (λ o k. refl) (get_or xs i blank_order) q (span (i + 1) n xs) (subst (Fronted (accepts_buying p)) (span_cons xs i n blank_order lt.0 ln) f.buys));
-    sells = subst (Fronted (accepts_selling p)) (sym sells_off.queue) (front_less (accepts_selling p) (λ o k. refl) (get_or ys j blank_order) q (span (j + 1) m ys) (subst (Fronted (accepts_selling p)) (span_cons ys j m blank_order lt.1 lm) f.sells));
-  }
+      let first : firsts_meet p (b ∷ span (met.buys + 1) d'.state.buys d'.buys) (s ∷ span (met.sells + 1) d'.state.sells d'.sells) ≡ true = rw (bs, ss) at meet in
+      let go = pairs_trade p b s (span (met.buys + 1) d'.state.buys d'.buys) (span (met.sells + 1) d'.state.sells d'.sells) first in
+      let before = h.leads in
+      record {
+        leads = rw (line, place, add-one, bq, sq, e) (sym (ap (finish page') go)) ∙ rw (bs, ss) at before;
+        fronts = record {
+          buys = subst (Fronted (accepts_buying p)) (sym bq) (front_less (accepts_buying p) (λ o k. refl) b q _ (subst (Fronted (accepts_buying p)) bs h.fronts.buys));
+          sells = subst (Fronted (accepts_selling p)) (sym sq) (front_less (accepts_selling p) (λ o k. refl) s q _ (subst (Fronted (accepts_selling p)) ss h.fronts.sells));
+        };
+        start = record { buys_start = omega (arith, buys_off.high, lt.0); sells_start = omega (arith, sells_off.high, lt.1); buys = omega (arith, bl, h.start.buys); sells = omega (arith, sl, h.start.sells) };
+        few = omega (arith, fewer, place, h.few, ap (λ s. s.buys) h.state, ap (λ s. s.sells) h.state);
+        buys_beyond = ap (λ s. drop s.buys buys) (sym h.state) ∙ buys_off.beyond ∙ ap (λ s. drop s.buys d'.buys) h.state ∙ h.buys_beyond;
+        sells_beyond = ap (λ s. drop s.sells sells) (sym h.state) ∙ sells_off.beyond ∙ ap (λ s. drop s.sells d'.sells) h.state ∙ h.sells_beyond;
+        stops = h.stops;
+        state = h.state;
+      }
 
 -- the last turn is done
-pub met_by : (p n m : ℕ) (buys buys' sells sells' : List Order) (report report' : List ReportLine) (met : Met) → n + m ≤ length report
-    → firsts_meet p (span met.buys n buys') (span met.sells m sells') ≡ false → InFront p (span met.buys n buys') (span met.sells m sells')
-    → finish report' met.lines (pairs p (span met.buys n buys') (span met.sells m sells')) ≡ finish report 0 (pairs p (take n buys) (take m sells))
-    → met.buys ≤ n → met.sells ≤ m → met.lines + ((n - met.buys) + (m - met.sells)) ≤ n + m → drop n buys' ≡ drop n buys → drop m sells' ≡ drop m sells
-    → MetBy (pairs p (take n buys) (take m sells)) n m buys buys' sells sells' report report' met
-met_by p n m buys buys' sells sells' report report' met room unmet f e bi si few bb sb =
-    let r = pairs p (take n buys) (take m sells) in
-    let end : finish report' met.lines (unpaired (span met.buys n buys') (span met.sells m sells')) ≡ finish report 0 r = sym (ap (finish report' met.lines) (pairs_end p _ _ f unmet)) ∙ e in
-    let lines : met.lines ≡ length r.trades = ap (λ x. x.at) end ∙ place_after_lem 0 r.trades ∙ omega arith in
+pub met_by : (p : ℕ) (d d' : Desk) (page page' : Page) (met : Met) → OrdersFit d page → firsts_meet p (span met.buys d'.state.buys d'.buys) (span met.sells d'.state.sells d'.sells) ≡ false
+    → Pairing p d page d' page' met → MetBy p d page d' page' met
+met_by p d d' page page' met fit unmet h =
+    let r = paired_at p d in
+    let end : finish page' (unpaired (span met.buys d'.state.buys d'.buys) (span met.sells d'.state.sells d'.sells)) ≡ finish page r = sym (ap (finish page') (pairs_end p _ _ h.fronts unmet)) ∙ h.leads in
+    let place : page'.written ≡ page.written + length r.trades = ap (λ x. x.page.written) end ∙ place_after_is page.written r.trades in
     record {
-      buys_left = ap (λ x. x.buys) end;
-      sells_left = ap (λ x. x.sells) end;
-      trades = ap (λ x. x.report) end ∙ sets-eq r.trades report 0 (omega arith);
-      lines = lines;
-      buys_start = bi;
-      sells_start = si;
-      few = few;
-      buys_beyond = bb;
-      sells_beyond = sb;
+      buys_left = ap (λ s. span met.buys s.buys d'.buys) (sym h.state) ∙ ap (λ x. x.buys) end;
+      sells_left = ap (λ s. span met.sells s.sells d'.sells) (sym h.state) ∙ ap (λ x. x.sells) end;
+      trades = record { lines = ap (λ x. x.page.lines) end ∙ sets_written page.lines page.written r.trades (omega (arith, place, h.few, fit.lines)); place = place };
+      buys_start = omega (arith, h.start.buys_start, ap (λ s. s.buys) h.state);
+      sells_start = omega (arith, h.start.sells_start, ap (λ s. s.sells) h.state);
+      few = h.few;
+      buys_beyond = h.buys_beyond;
+      sells_beyond = h.sells_beyond;
+      stops = h.stops;
     }

@@ -1,10 +1,12 @@
 -- Lines written into a report.
-use Rattle.std.proofs.Common.{◌≡◌, ℕ, suc, ◌+◌, ◌<◌, ◌≤◌, List, [], ◌∷◌, ◌++◌, length, get_or, take, drop, set, sym, refl, ap, ◌∙◌, add-zero, arith}
+use Rattle.std.proofs.Common.{◌≡◌, ℕ, suc, ◌+◌, ◌<◌, ◌≤◌, List, [], ◌∷◌, ◌++◌, length, get_or, take, drop, set, sym, refl, ap, ◌∙◌, add-zero, add-one, arith}
 use lib.Seq.{sets, sets-eq}
 use Rattle.std.proofs.lemmas.List.{append_assoc, length-append, length-take-le, take-append-drop, take_at, drop_at, drop-drop, drop_more, drop_all}
 use Rattle.trading.specs.declared.report.ReportLine.{ReportLine}
 use Rattle.trading.specs.Moves.{written_at}
 use Rattle.trading.specs.Uncrossings.{lapses_by}
+use Rattle.lent.specs.Contents.{Page}
+use Rattle.uncrossing.specs.Lines.{Wrote}
 
 pub written_none : (r : List ReportLine) (at : ℕ) → written_at r at [] ≡ r
 written_none r at = rw add-zero (take-append-drop at r)
@@ -28,10 +30,15 @@ written_twice r at a b h =
     ∙ append_assoc (take at r) a (b ++ drop (at + length (a ++ b)) r)
     ∙ ap (λ xs. take at r ++ xs) (sym (append_assoc a b (drop (at + length (a ++ b)) r)))
 
--- the same of reports as they are found
-pub two_writes : (r r1 r2 : List ReportLine) (at k end : ℕ) (a b : List ReportLine) → r1 ≡ written_at r at a → k ≡ at + length a → r2 ≡ written_at r1 k b → end ≡ k + length b → end ≤ length r → (r2 ≡ written_at r at (a ++ b)) × (end ≡ at + length (a ++ b))
-two_writes r r1 r2 at k end a b e1 ek e2 en h =
-    (e2 ∙ ap (λ x. written_at x k b) e1 ∙ ap (λ m. written_at (written_at r at a) m b) ek ∙ written_twice r at a b (omega arith), omega (arith, length-append a b))
+-- the same of pages
+pub wrote_none : (p : Page) → Wrote [] p p
+wrote_none p = record { lines = sym (written_none p.lines p.written); place = omega arith }
+
+pub wrote_both : {p p1 p2 : Page} {a b : List ReportLine} → Wrote a p p1 → Wrote b p1 p2 → p2.written ≤ length p.lines → Wrote (a ++ b) p p2
+wrote_both {p} {p1} {p2} {a} {b} x y room = record {
+  lines = y.lines ∙ ap (λ r. written_at r p1.written b) x.lines ∙ ap (λ k. written_at (written_at p.lines p.written a) k b) x.place ∙ written_twice p.lines p.written a b (omega (arith, x.place, y.place));
+  place = omega (arith, x.place, y.place, length-append a b);
+}
 
 -- ---- a lapse line for each record of a queue
 
@@ -42,14 +49,17 @@ module _ {R : Type 0} (lapse : R → ReportLine) where
   length_lapses (r ∷ rs) = ap suc (length_lapses rs)
 
   -- the lines that are left lead where all lines lead
-  pub lapse_next : (queue : List R) (report whole : List ReportLine) (at i : ℕ) (r : R) (line : ReportLine) → i < length queue → r ≡ get_or queue i r → line ≡ lapse r → sets report (at + i) (lapses_by lapse (drop i queue)) ≡ whole → sets (set report (at + i) line) (at + (i + 1)) (lapses_by lapse (drop (i + 1) queue)) ≡ whole
+  pub lapse_next : (queue : List R) (p p' : Page) (whole : List ReportLine) (i : ℕ) (r : R) (line : ReportLine) → i < length queue → r ≡ get_or queue i r → line ≡ lapse r → p'.lines ≡ set p.lines p.written line → p'.written ≡ p.written + 1
+      → sets p.lines p.written (lapses_by lapse (drop i queue)) ≡ whole → sets p'.lines p'.written (lapses_by lapse (drop (i + 1) queue)) ≡ whole
   unfolding lapses_by
-  lapse_next queue report whole at i r line lt is e h =
-      let k : at + (i + 1) ≡ suc (at + i) = omega arith in
+  lapse_next queue p p' whole i r line lt is e one next h =
       let y : line ≡ lapse (get_or queue i r) = e ∙ ap lapse is in
-      rw (k, y) (ap (λ xs. sets report (at + i) (lapses_by lapse xs)) (sym (drop_more queue i r lt)) ∙ h)
+      rw (one, next, add-one, y) (ap (λ xs. sets p.lines p.written (lapses_by lapse xs)) (sym (drop_more queue i r lt)) ∙ h)
 
-  pub lapse_end : (queue : List R) (report report' : List ReportLine) (at i : ℕ) → at + length queue ≤ length report → length queue ≤ i → sets report' (at + i) (lapses_by lapse (drop i queue)) ≡ sets report at (lapses_by lapse queue) → report' ≡ written_at report at (lapses_by lapse queue)
+  pub lapse_end : (queue : List R) (p p' : Page) (i : ℕ) → p.written + length queue ≤ length p.lines → length queue ≤ i → i ≤ length queue → p'.written ≡ p.written + i
+      → sets p'.lines p'.written (lapses_by lapse (drop i queue)) ≡ sets p.lines p.written (lapses_by lapse queue) → Wrote (lapses_by lapse queue) p p'
   unfolding lapses_by
-  lapse_end queue report report' at i room done h =
-      ap (λ xs. sets report' (at + i) (lapses_by lapse xs)) (sym (drop_all i queue done)) ∙ h ∙ sets_written report at (lapses_by lapse queue) (omega (arith, length_lapses queue))
+  lapse_end queue p p' i room done last place h = record {
+    lines = ap (λ xs. sets p'.lines p'.written (lapses_by lapse xs)) (sym (drop_all i queue done)) ∙ h ∙ sets_written p.lines p.written (lapses_by lapse queue) (omega (arith, length_lapses queue));
+    place = omega (arith, place, length_lapses queue);
+  }

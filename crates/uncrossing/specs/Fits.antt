@@ -1,44 +1,58 @@
--- Counts that fit tables and report, and how they fall.
-use Rattle.std.specs.Prelude.{◌≡◌, ℕ, ◌+◌, ◌-◌, ◌≤◌, List, length}
-use Rattle.rules.specs.declared.order.Order.{Order}
-use Rattle.trading.specs.declared.stop.StopOrder.{StopOrder}
+-- Counts that fit tables and page, and how they fall.
+use Rattle.std.specs.Prelude.{◌≡◌, ℕ, ◌+◌, ◌-◌, ◌≤◌, length}
 use Rattle.trading.specs.declared.state.State.{State}
+use Rattle.trading.specs.Desks.{Desk}
+use Rattle.lent.specs.Contents.{Page}
 use Rattle.uncrossing.specs.declared.pairing.Met.{Met}
 
--- the counts of orders fit the tables, and a report of `room` lines has one for each order
-pub record OrdersFit (s : State) (bs ss : List Order) (room : ℕ) : Type 0 where
-  pub buys : s.buys ≤ length bs
-  pub sells : s.sells ≤ length ss
-  pub lines : s.buys + s.sells ≤ room
+-- the counts of orders fit the tables, and behind its lines the page has one for each order
+pub record OrdersFit (d : Desk) (p : Page) : Type 0 where
+  pub buys : d.state.buys ≤ length d.buys
+  pub sells : d.state.sells ≤ length d.sells
+  pub lines : p.written + (d.state.buys + d.state.sells) ≤ length p.lines
 
 -- the same with the stops
-pub record AllFit (s : State) (bs ss : List Order) (ts : List StopOrder) (room : ℕ) : Type 0 where
-  pub buys : s.buys ≤ length bs
-  pub sells : s.sells ≤ length ss
-  pub stops : s.stops ≤ length ts
-  pub lines : s.buys + s.sells + s.stops ≤ room
+pub record AllFit (d : Desk) (p : Page) : Type 0 where
+  pub buys : d.state.buys ≤ length d.buys
+  pub sells : d.state.sells ≤ length d.sells
+  pub stops : d.state.stops ≤ length d.stops
+  pub lines : p.written + (d.state.buys + d.state.sells + d.state.stops) ≤ length p.lines
+
+-- the queues go on from places within them, and fit the tables
+pub record QueuesStart (met : Met) (d : Desk) : Type 0 where
+  pub buys_start : met.buys ≤ d.state.buys
+  pub sells_start : met.sells ≤ d.state.sells
+  pub buys : d.state.buys ≤ length d.buys
+  pub sells : d.state.sells ≤ length d.sells
 
 -- how many orders are left where the queues go on
 abbrev pub orders_left : Met → State → ℕ
 orders_left met s = (s.buys - met.buys) + (s.sells - met.sells)
 
--- the same where trades were written and the queues go on from a place
-pub record RestFits (met : Met) (s : State) (bs ss : List Order) (room : ℕ) : Type 0 where
-  pub buys_start : met.buys ≤ s.buys
-  pub sells_start : met.sells ≤ s.sells
-  pub buys : s.buys ≤ length bs
-  pub sells : s.sells ≤ length ss
-  pub lines : met.lines + orders_left met s ≤ room
+-- behind its lines the page has one for each order that is left
+pub record RestFits (met : Met) (d : Desk) (p : Page) : Type 0 where
+  pub queues : QueuesStart met d
+  pub lines : p.written + orders_left met d.state ≤ length p.lines
 
-pub record StopsFit (met : Met) (s : State) (ts : List StopOrder) (room : ℕ) : Type 0 where
-  pub stops : s.stops ≤ length ts
-  pub lines : met.lines + (orders_left met s + s.stops) ≤ room
+-- the same with the stops
+pub record StopsFit (met : Met) (d : Desk) (p : Page) : Type 0 where
+  pub stops : d.state.stops ≤ length d.stops
+  pub lines : p.written + (orders_left met d.state + d.state.stops) ≤ length p.lines
 
--- each line up to `end` took an order away, and the stops are as many as before
-pub record Fewer (s s' : State) (end : ℕ) : Type 0 where
-  pub orders : end + (s'.buys + s'.sells) ≤ s.buys + s.sells
-  pub stops : s'.stops ≡ s.stops
+-- each line more took an order away, and the stops are as before
+pub record Fewer (d : Desk) (p : Page) (d' : Desk) (p' : Page) : Type 0 where
+  pub orders : p'.written + (d'.state.buys + d'.state.sells) ≤ p.written + (d.state.buys + d.state.sells)
+  pub stops : d'.state.stops ≡ d.state.stops
+  pub table : d'.stops ≡ d.stops
 
-pub record FewerFrom (met : Met) (s s' : State) (end : ℕ) : Type 0 where
-  pub orders : end + (s'.buys + s'.sells) ≤ met.lines + orders_left met s
-  pub stops : s'.stops ≡ s.stops
+-- the same where the queues go on from a place
+pub record FewerFrom (met : Met) (d : Desk) (p : Page) (d' : Desk) (p' : Page) : Type 0 where
+  pub orders : p'.written + (d'.state.buys + d'.state.sells) ≤ p.written + orders_left met d.state
+  pub stops : d'.state.stops ≡ d.state.stops
+  pub table : d'.stops ≡ d.stops
+
+-- no record of a table has changed
+pub record TablesStay (d d' : Desk) : Type 0 where
+  pub buys : d'.buys ≡ d.buys
+  pub sells : d'.sells ≡ d.sells
+  pub stops : d'.stops ≡ d.stops

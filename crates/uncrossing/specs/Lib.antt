@@ -1,6 +1,7 @@
 pub mod Spans
+pub mod Lines
+pub mod Fits
 pub mod Fronts
 pub mod Meetings
 pub mod Sifted
-pub mod Fits
 pub mod Prints

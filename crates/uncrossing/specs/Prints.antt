@@ -1,11 +1,8 @@
 -- A book after the trades at a price, while the orders that are used up still lie in front of the queues.
-use Rattle.std.specs.Prelude.{◌≡◌, ℕ, List, take}
-use Rattle.rules.specs.declared.order.Order.{Order}
-use Rattle.trading.specs.declared.state.State.{State}
-use Rattle.trading.specs.declared.report.ReportLine.{ReportLine}
+use Rattle.std.specs.Prelude.{◌≡◌, ℕ, take}
 use Rattle.trading.specs.Books.{Book}
 use Rattle.trading.specs.Desks.{Desk}
-use Rattle.trading.specs.Uncrossings.{pairs}
+use Rattle.lent.specs.Contents.{Page}
 use Rattle.uncrossing.specs.declared.pairing.Met.{Met}
 use Rattle.uncrossing.specs.Spans.{span}
 use Rattle.uncrossing.specs.Meetings.{MetBy}
@@ -22,6 +19,6 @@ book_from met d = record {
 }
 
 -- p was printed: it is the static and the last price, and the queues have traded at it
-pub record PrintedAs (p : ℕ) (s s' : State) (buys buys' sells sells' : List Order) (report report' : List ReportLine) (met : Met) : Type 0 where
-  pub state : s' ≡ record { phase = s.phase; buys = s.buys; sells = s.sells; stops = s.stops; static_price = p; last = p }
-  pub paired : MetBy (pairs p (take s.buys buys) (take s.sells sells)) s.buys s.sells buys buys' sells sells' report report' met
+pub record PrintedAs (p : ℕ) (d : Desk) (page : Page) (d' : Desk) (page' : Page) (met : Met) : Type 0 where
+  pub state : d'.state ≡ record { phase = d.state.phase; buys = d.state.buys; sells = d.state.sells; stops = d.state.stops; static_price = p; last = p }
+  pub paired : MetBy p d page d' page' met

@@ -1,80 +1,67 @@
 // To the end of the book.
-ghost use Rattle.std.specs.Prelude.{ℕ, ◌+◌, ◌≤◌, ◌++◌, length, take};
-ghost use Rattle.trading.specs.Desks.{desk_of, book_of};
-ghost use Rattle.trading.specs.Moves.{Ready, Came};
+ghost use Rattle.std.specs.Prelude.{◌≡◌, ℕ, ◌++◌, length};
+ghost use Rattle.trading.specs.Desks.{book_of};
+ghost use Rattle.trading.specs.Moves.{Ready};
 ghost use Rattle.trading.specs.Sweeps.{moved};
 ghost use Rattle.trading.specs.Uncrossings.{pairs, all_lapses, emptied, printed_at};
-ghost use Rattle.uncrossing.specs.Fits.{AllFit, RestFits, StopsFit};
+ghost use Rattle.lent.specs.Contents.{contents, page, ReportKept, Kept};
+ghost use Rattle.lent.specs.Moves.{Comes};
+ghost use Rattle.uncrossing.specs.Lines.{Wrote};
+ghost use Rattle.uncrossing.specs.Fits.{AllFit, RestFits, StopsFit, TablesStay};
 ghost use Rattle.uncrossing.specs.Fronts.{InFront};
 ghost use Rattle.uncrossing.specs.Prints.{book_from};
 
 use crate::lapsing::write_lapses;
-use crate::pairing::{Met, UNMET};
+use crate::pairing::Met;
 use crate::printing::print_price;
-use rules::Order;
-use trading::{Phase, ReportLine, State, StopOrder};
+use lent::{Desk, Report};
+use trading::Phase;
 
-// All that is left of the queues lapses, and the stops, and the book is ended. Answers the place after the lines.
-fn close_rest(
-    met: Met,
-    state: &mut State,
-    buys: &[Order],
-    sells: &[Order],
-    stops: &[StopOrder],
-    report: &mut [ReportLine],
-) -> usize
-    requires orders { RestFits met state.old buys.now sells.now (length report.old) }
-    requires stops { StopsFit met state.old stops.now (length report.old) }
-    ensures came { let d = desk_of state.old buys.now sells.now stops.now in let d' = desk_of state.new buys.now sells.now stops.now in ((n : ℕ) → Came n (moved (emptied (book_from met d)) (all_lapses (book_from met d))) d report.old met.lines d' report.new result) }
-    ensures within { result ≤ length report.old }
+// Writes a lapse line for all that is left of the queues, and for the stops.
+fn lapse_rest(met: Met, desk: &Desk<'_>, report: &mut Report<'_>)
+    requires orders { RestFits met (contents desk.now) (page report.old) }
+    requires stops { StopsFit met (contents desk.now) (page report.old) }
+    ensures wrote { Wrote (all_lapses (book_from met (contents desk.now))) (page report.old) (page report.new) }
+    ensures kept { ReportKept report.old report.new }
 {
-    let Met {
-        buys: first_buy,
-        sells: first_sell,
-        lines,
-    } = met;
-    let bought = state.buys;
-    let sold = state.sells;
-    let stopped = state.stops;
-    let after_buys = write_lapses(&buys[first_buy..bought], report, lines);
-    let after_sells = write_lapses(&sells[first_sell..sold], report, after_buys);
-    let end = write_lapses(&stops[0..stopped], report, after_sells);
-    state.phase = Phase::Ended;
-    state.buys = 0;
-    state.sells = 0;
-    state.stops = 0;
-    end
+    write_lapses(&desk.buys[met.buys..desk.state.buys], report);
+    write_lapses(&desk.sells[met.sells..desk.state.sells], report);
+    write_lapses(&desk.stops[..desk.state.stops], report);
 }
 
-// Without a price: everything lapses, and the book is ended. Answers the number of lines.
-pub fn close_unprinted(
-    state: &mut State,
-    buys: &[Order],
-    sells: &[Order],
-    stops: &[StopOrder],
-    report: &mut [ReportLine],
-) -> usize
-    requires { AllFit state.old buys.now sells.now stops.now (length report.old) }
-    ensures came { let d = desk_of state.old buys.now sells.now stops.now in let d' = desk_of state.new buys.now sells.now stops.now in ((n : ℕ) → Came n (moved (emptied (book_of d)) (all_lapses (book_of d))) d report.old 0 d' report.new result) }
-    ensures within { result ≤ length report.old }
+// All that is left of the queues lapses, and the stops, and the book is ended.
+fn close_rest(met: Met, desk: &mut Desk<'_>, report: &mut Report<'_>)
+    requires orders { RestFits met (contents desk.old) (page report.old) }
+    requires stops { StopsFit met (contents desk.old) (page report.old) }
+    ensures came { let d = contents desk.old in ((n : ℕ) → Comes n (moved (emptied (book_from met d)) (all_lapses (book_from met d))) d (page report.old) (contents desk.new) (page report.new)) }
+    ensures tables { TablesStay (contents desk.old) (contents desk.new) }
+    ensures kept { Kept desk.old report.old desk.new report.new }
 {
-    close_rest(UNMET, state, buys, sells, stops, report)
+    lapse_rest(met, desk, report);
+    desk.state.phase = Phase::Ended;
+    desk.state.buys = 0;
+    desk.state.sells = 0;
+    desk.state.stops = 0;
+}
+
+// Without a price: everything lapses, and the book is ended.
+pub fn close_unprinted(desk: &mut Desk<'_>, report: &mut Report<'_>)
+    requires { AllFit (contents desk.old) (page report.old) }
+    ensures came { let d = contents desk.old in ((n : ℕ) → Comes n (moved (emptied (book_of d)) (all_lapses (book_of d))) d (page report.old) (contents desk.new) (page report.new)) }
+    ensures tables { TablesStay (contents desk.old) (contents desk.new) }
+    ensures kept { Kept desk.old report.old desk.new report.new }
+{
+    close_rest(Met::default(), desk, report);
 }
 
 // The price is printed; then the same.
-pub fn print_and_close(
-    price: u32,
-    state: &mut State,
-    buys: &mut [Order],
-    sells: &mut [Order],
-    stops: &[StopOrder],
-    report: &mut [ReportLine],
-) -> usize
-    requires fit { AllFit state.old buys.old sells.old stops.now (length report.old) }
-    requires fronts { InFront price (take state.old.buys buys.old) (take state.old.sells sells.old) }
-    ensures came { let d = desk_of state.old buys.old sells.old stops.now in let d' = desk_of state.new buys.new sells.new stops.now in let b = book_of d in ((n : ℕ) → Ready n d (length report.old) 0 0 → Came n (moved (emptied (printed_at price b)) ((pairs price b.buys b.sells).trades ++ all_lapses (printed_at price b))) d report.old 0 d' report.new result) }
-    ensures within { result ≤ length report.old }
+pub fn print_and_close(price: u32, desk: &mut Desk<'_>, report: &mut Report<'_>)
+    requires fit { AllFit (contents desk.old) (page report.old) }
+    requires fronts { let b = book_of (contents desk.old) in InFront price b.buys b.sells }
+    ensures came { let d = contents desk.old in let b = book_of d in ((n : ℕ) → Ready n d (length report.old.lines.now) report.old.written 0 → Comes n (moved (emptied (printed_at price b)) ((pairs price b.buys b.sells).trades ++ all_lapses (printed_at price b))) d (page report.old) (contents desk.new) (page report.new)) }
+    ensures stops { desk.new.stops.now ≡ desk.old.stops.now }
+    ensures kept { Kept desk.old report.old desk.new report.new }
 {
-    let met = print_price(price, state, buys, sells, report);
-    close_rest(met, state, buys, sells, stops, report)
+    let met = print_price(price, desk, report);
+    close_rest(met, desk, report);
 }

@@ -1,13 +1,15 @@
 // Lapse lines.
 ghost use Rattle.std.specs.Prelude.{◌≡◌, ◌+◌, ◌≤◌, length};
 ghost use Rattle.trading.specs.declared.report.ReportLine.{ReportLine};
-ghost use Rattle.trading.specs.Moves.{written_at};
 ghost use Rattle.trading.specs.Uncrossings.{lapse_of, stop_lapse, lapses_by};
+ghost use Rattle.lent.specs.Contents.{page, ReportKept};
+ghost use Rattle.uncrossing.specs.Lines.{Wrote};
 
+use lent::Report;
 use rules::Order;
 use trading::{ReportLine, StopOrder};
 
-// A record that can lapse.
+// A record that can lapse. Not a `From`: the records and the lines are types of other crates.
 pub trait Lapsing {
     // its lapse line
     ghost lapse: { Self → ReportLine };
@@ -38,14 +40,14 @@ impl Lapsing for StopOrder {
     }
 }
 
-// Writes a lapse line for each record of a queue, from `at` on, and answers the place after them.
-pub(crate) fn write_lapses<R: Lapsing>(queue: &[R], report: &mut [ReportLine], at: usize) -> usize
-    requires { at + length queue.now ≤ length report.old }
-    ensures lines { report.new ≡ written_at report.old at (lapses_by R.lapse queue.now) }
-    ensures place { result ≡ at + length queue.now }
+// Writes a lapse line for each record of a queue.
+pub(crate) fn write_lapses<R: Lapsing>(queue: &[R], report: &mut Report<'_>)
+    requires { report.old.written + length queue.now ≤ length report.old.lines.now }
+    ensures wrote { Wrote (lapses_by R.lapse queue.now) (page report.old) (page report.new) }
+    ensures place { report.new.written ≡ report.old.written + length queue.now }
+    ensures kept { ReportKept report.old report.new }
 {
-    for (i, record) in queue.iter().enumerate() {
-        report[at + i] = record.lapse_line();
+    for record in queue {
+        report.write(record.lapse_line());
     }
-    at + queue.len()
 }

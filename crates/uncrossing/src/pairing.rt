@@ -1,35 +1,34 @@
 // The trades of buys and sells at one price.
-ghost use Rattle.std.specs.Prelude.{◌≡◌, ◌+◌, ◌<◌, ◌≤◌, min, length, take};
-ghost use Rattle.trading.specs.Uncrossings.{pairs};
+ghost use Rattle.std.specs.Prelude.{◌≡◌, ◌+◌, ◌<◌, ◌≤◌, min, length};
+ghost use Rattle.trading.specs.Desks.{book_of};
+ghost use Rattle.lent.specs.Contents.{contents, page, Kept};
+ghost use Rattle.uncrossing.specs.Spans.{span};
+ghost use Rattle.uncrossing.specs.Fits.{OrdersFit, QueuesStart};
 ghost use Rattle.uncrossing.specs.Fronts.{InFront};
 ghost use Rattle.uncrossing.specs.Meetings.{firsts_meet, TookOff, MetBy};
 
+use lent::{Desk, Report};
 use rules::Order;
 use trading::ReportLine;
 
-// Where each queue goes on after the trades at a price, and how many lines were written.
-#[derive(Clone, Copy)]
+// Where each queue goes on after the trades at a price; by default, before any trade.
+#[derive(Clone, Copy, Default)]
 pub struct Met {
     pub buys: usize,
     pub sells: usize,
-    pub lines: usize,
 }
 
-// Before any trade.
-pub(crate) const UNMET: Met = Met {
-    buys: 0,
-    sells: 0,
-    lines: 0,
-};
-
-// Whether the first buy and the first sell accept the price.
-fn firsts_meet(price: u32, buys: &[Order], sells: &[Order]) -> bool
-    ensures { result ≡ firsts_meet price buys.now sells.now }
+// Whether the first buy and the first sell that are left accept the price.
+fn firsts_meet(price: u32, met: Met, desk: &Desk<'_>) -> bool
+    requires { QueuesStart met (contents desk.now) }
+    ensures { let d = contents desk.now in result ≡ firsts_meet price (span met.buys d.state.buys d.buys) (span met.sells d.state.sells d.sells) }
 {
-    if buys.len() == 0 || sells.len() == 0 {
-        return false;
+    let buys = &desk.buys[met.buys..desk.state.buys];
+    let sells = &desk.sells[met.sells..desk.state.sells];
+    match (buys.first(), sells.first()) {
+        (Some(buy), Some(sell)) => buy.accepts_buying(price) && sell.accepts_selling(price),
+        _ => false,
     }
-    buys[0].accepts_buying(price) && sells[0].accepts_selling(price)
 }
 
 // What two orders trade.
@@ -54,40 +53,27 @@ fn take_off(orders: &mut [Order], first: usize, quantity: u32) -> usize
 
 // The first buy and the first sell trade the smaller quantity, while both accept the price. Orders that are used up stay where
 // they are, in front of the queues.
-pub(crate) fn pair_all(
-    price: u32,
-    buys: &mut [Order],
-    bought: usize,
-    sells: &mut [Order],
-    sold: usize,
-    report: &mut [ReportLine],
-) -> Met
-    requires buys { bought ≤ length buys.old }
-    requires sells { sold ≤ length sells.old }
-    requires room { bought + sold ≤ length report.old }
-    requires fronts { InFront price (take bought buys.old) (take sold sells.old) }
-    ensures { MetBy (pairs price (take bought buys.old) (take sold sells.old)) bought sold buys.old buys.new sells.old sells.new report.old report.new result }
+pub(crate) fn pair_all(price: u32, desk: &mut Desk<'_>, report: &mut Report<'_>) -> Met
+    requires fit { OrdersFit (contents desk.old) (page report.old) }
+    requires fronts { let b = book_of (contents desk.old) in InFront price b.buys b.sells }
+    ensures paired { MetBy price (contents desk.old) (page report.old) (contents desk.new) (page report.new) result }
+    ensures state { desk.new.state.now ≡ desk.old.state.now }
+    ensures kept { Kept desk.old report.old desk.new report.new }
 {
-    let mut i = 0;
-    let mut j = 0;
-    let mut at = 0;
-    'trades: while firsts_meet(price, &buys[i..bought], &sells[j..sold]) {
-        let buy = buys[i];
-        let sell = sells[j];
+    let mut met = Met::default();
+    // by index: the two queues go on apart from each other
+    'trades: while firsts_meet(price, met, desk) {
+        let buy = desk.buys[met.buys];
+        let sell = desk.sells[met.sells];
         let quantity = smaller_open(buy, sell);
-        report[at] = ReportLine::Trade {
+        report.write(ReportLine::Trade {
             buy: buy.number,
             sell: sell.number,
             price,
             quantity,
-        };
-        i = take_off(buys, i, quantity);
-        j = take_off(sells, j, quantity);
-        at += 1;
+        });
+        met.buys = take_off(desk.buys, met.buys, quantity);
+        met.sells = take_off(desk.sells, met.sells, quantity);
     }
-    Met {
-        buys: i,
-        sells: j,
-        lines: at,
-    }
+    met
 }

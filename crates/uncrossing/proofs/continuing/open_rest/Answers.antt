@@ -1,12 +1,9 @@
-use Rattle.std.proofs.Common.{refl, arith}
+use Rattle.lent.specs.Contents.{contents, page}
 use Rattle.uncrossing.proofs.Moving.{opens}
 use Rattle.uncrossing.proofs.continuing.open_rest.Goals as goal
 
-pub returns : goal.returns
-returns c =
-    let b = c.sift-buyers in
-    let s = c.sift-sellers in
-    record {
-      came = λ stops n hb hs ht. opens c.args.met c.args.state.now _ _ _ _ stops _ _ _ b.result s.result n c.requires b.auto.orders s.auto.orders b.ensures s.ensures hb hs ht;
-      fewer = record { orders = omega (arith, b.ensures.few, s.ensures.few, b.ensures.on, s.ensures.on); stops = refl };
-    }
+pub returns-clause-came : goal.returns-clause-came
+returns-clause-came c =
+    let b = c.sift-desk in
+    let s = c.sift-desk-2 in
+    λ n hb hs ht. opens c.args.met (contents c.args.desk.now) _ _ (page c.args.report.now) (page b.new.report) (page s.new.report) b.result s.result n c.requires b.auto.orders s.auto.orders b.ensures.sifted s.ensures.sifted hb hs ht
