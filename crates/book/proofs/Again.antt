@@ -1,5 +1,5 @@
 -- An order that enters again.
-use Rattle.std.proofs.Common.{◌≡◌, ℕ, ◌+◌, ◌≤◌, List, [], ◌∷◌, length, set, ap, ◌∙◌, subst, arith, length-take}
+use Rattle.std.proofs.Common.{◌≡◌, ℕ, ◌+◌, ◌≤◌, [], ◌∷◌, length, set, ap, ◌∙◌, subst, arith, length-take}
 use Rattle.rules.specs.declared.order.Order.{Order}
 use Rattle.trading.specs.declared.report.ReportLine.TheVariants.{Lapse}
 use Rattle.trading.specs.Books.{Venue, Book, held, blank_stop}

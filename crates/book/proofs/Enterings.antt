@@ -7,10 +7,9 @@ use Rattle.trading.specs.declared.stop.StopOrder.{StopOrder}
 use Rattle.trading.specs.declared.ticket.Ticket.{Ticket}
 use Rattle.trading.specs.Queues.{joined, stop_ahead}
 use Rattle.trading.specs.Books.{Venue, Book, held, is_continuous, is_vfu, with_stops}
-use Rattle.trading.specs.Sweeps.{Moved, moved, join, sweeps, release_all}
+use Rattle.trading.specs.Sweeps.{moved, join, sweeps, release_all}
 use Rattle.trading.specs.Calls.{is_stop, stop_of, order_of, enters_as, stop_joins, entered, first_fault, enter_effect, effect_of}
 use Rattle.trading.specs.Desks.{Desk, desk_of, book_of, capacity}
-use Rattle.trading.specs.Moves.{Ready}
 use Rattle.lent.specs.Contents.{Page}
 use Rattle.lent.specs.Moves.{ReadyFor, Comes}
 use Rattle.sessions.proofs.Balance.{count_length, size_held, entered_balanced}

@@ -1,5 +1,5 @@
 -- What follows the price of an uncrossing has come about.
-use Rattle.std.proofs.Common.{◌≡◌, ℕ, List, ◌++◌, length, sym, ap, subst, arith}
+use Rattle.std.proofs.Common.{◌≡◌, ℕ, ◌++◌, length, sym, ap, subst, arith}
 use Rattle.std.proofs.lemmas.List.{append-nil, append_assoc}
 use Rattle.rules.specs.declared.opening.Opening.{Opening}
 use Rattle.rules.specs.declared.opening.Opening.TheVariants.{NoPrice, Printed}
@@ -27,7 +27,7 @@ module _ (d d' : Desk) (m : Moved) (p p' : Page) (ready : ReadyFor 0 d p) (came 
   pub ready_to_release : length p'.lines ≡ length p.lines → ReadyFor 0 d' p'
   ready_to_release long =
       let same = same_capacity (capacity d) d d' came.beyond in
-      record { buys = omega arith; sells = omega arith; stops = omega arith; records = ?; lines = omega (arith, long, fewer.orders, fewer.stops, ready.lines) }
+      record { buys = omega arith; sells = omega arith; stops = omega arith; records = omega (arith, same, came.place, fewer.orders, fewer.stops, ready.records); lines = omega (arith, long, fewer.orders, fewer.stops, ready.lines) }
 
   -- with the stops that were released after it, it has come about
   pub released_front : (v : Venue) (d'' : Desk) (p'' : Page) → Comes (capacity d') (release_all v (book_of d')) d' p' d'' p'' → Comes (capacity d) (then_released v m) d p d'' p''

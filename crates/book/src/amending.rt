@@ -129,9 +129,7 @@ pub fn amend<G: PriceGrid, C: Collar>(
         release_stops(collar, desk, &mut lines);
         return Ok(answer(desk, &lines, Outcome::PriorityKept));
     }
-    enter_again(
-        collar, desk, &mut lines, standing, number, limit, quantity,
-    );
+    enter_again(collar, desk, &mut lines, standing, number, limit, quantity);
     release_stops(collar, desk, &mut lines);
     Ok(answer(desk, &lines, Outcome::PriorityLost))
 }

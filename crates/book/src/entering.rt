@@ -58,12 +58,7 @@ fn join_stop(desk: &mut Desk<'_>, stop: StopOrder)
 }
 
 // A ticket enters as a stop or as an order.
-fn enter_ticket<C: Collar>(
-    collar: &C,
-    desk: &mut Desk<'_>,
-    report: &mut Report<'_>,
-    ticket: Ticket,
-)
+fn enter_ticket<C: Collar>(collar: &C, desk: &mut Desk<'_>, report: &mut Report<'_>, ticket: Ticket)
     requires { ReadyFor 1 (contents desk.old) (page report.old) }
     ensures entered { let d = contents desk.old in
         ((g : Grid) → Comes (capacity d) (entered (venue g (C.allows collar.now)) ticket (book_of d)) d (page report.old) (contents desk.new) (page report.new)) }

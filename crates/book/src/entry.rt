@@ -66,11 +66,7 @@ fn lacks_first_trade<C: Collar>(collar: &C, desk: &Desk<'_>, ticket: Ticket) -> 
 }
 
 // Makes the checks of an entry that look at the queues.
-pub fn check_queues<C: Collar>(
-    collar: &C,
-    desk: &Desk<'_>,
-    ticket: Ticket,
-) -> Result<(), BookFault>
+pub fn check_queues<C: Collar>(collar: &C, desk: &Desk<'_>, ticket: Ticket) -> Result<(), BookFault>
     requires counts { CountsFit (contents desk.now) }
     requires few { counted (contents desk.now) ≤ capacity (contents desk.now) }
     ensures { let d = contents desk.now in

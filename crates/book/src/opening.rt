@@ -30,12 +30,7 @@ fn open_without_price<C: Collar>(collar: &C, desk: &mut Desk<'_>, report: &mut R
 }
 
 // The trades at the price come first.
-fn open_at_price<C: Collar>(
-    collar: &C,
-    desk: &mut Desk<'_>,
-    report: &mut Report<'_>,
-    price: u32,
-)
+fn open_at_price<C: Collar>(collar: &C, desk: &mut Desk<'_>, report: &mut Report<'_>, price: u32)
     requires sound { Standing (contents desk.old) (length report.old.lines.now) }
     requires fresh { report.old.written ≡ 0 }
     ensures came { let d = contents desk.old in

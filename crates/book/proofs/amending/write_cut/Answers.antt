@@ -1,4 +1,4 @@
-use Rattle.std.proofs.Common.{sym, rules}
+use Rattle.std.proofs.Common.{rules}
 use Rattle.lent.specs.Contents.{page}
 use Rattle.book.proofs.Cuts.{wrote_lapse}
 use Rattle.book.proofs.amending.write_cut.Goals as goal

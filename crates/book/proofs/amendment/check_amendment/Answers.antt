@@ -2,7 +2,7 @@ use Rattle.std.proofs.Common.{sym}
 use Rattle.std.proofs.lemmas.Result.{err_from_is_err_and}
 use Rattle.trading.specs.Books.{venue_of}
 use Rattle.trading.specs.Desks.{book_of}
-use Rattle.lent.specs.Contents.{contents, page}
+use Rattle.lent.specs.Contents.{contents}
 use Rattle.book.proofs.Calls.{not_ended}
 use Rattle.book.proofs.Amends.{no_pair, no_limit, may_amend}
 use Rattle.book.proofs.amendment.check_amendment.Goals as goal

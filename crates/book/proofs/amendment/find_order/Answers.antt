@@ -1,7 +1,7 @@
 use Rattle.std.proofs.Common.{subst, arith}
 use Rattle.std.proofs.lemmas.List.{length-take-le}
 use Rattle.trading.specs.Desks.{book_of}
-use Rattle.lent.specs.Contents.{contents, page}
+use Rattle.lent.specs.Contents.{contents}
 use Rattle.book.specs.declared.finding.Spot.TheVariants.{Buys, Sells}
 use Rattle.book.specs.Finding.{AtSpot}
 use Rattle.book.proofs.Amends.{buy_stands, sell_stands, stop_stands}

@@ -1,6 +1,6 @@
 use native.Mathlib.Nat.{sub-zero}
 use Rattle.trading.specs.Desks.{book_of}
-use Rattle.lent.specs.Contents.{contents, page}
+use Rattle.lent.specs.Contents.{contents}
 use Rattle.book.proofs.Spots.{at_buys, at_sells, at_stops, at_none}
 use Rattle.book.proofs.finding.find_record.Goals as goal
 

@@ -13,5 +13,41 @@ print_and_close-requires g c =
     let s = c.requires.sound in
     record {
       fit = record { buys = s.counts.buys; sells = s.counts.sells; stops = s.counts.stops; lines = omega (arith, s.few, s.wide, c.requires.fresh) };
-      fronts = ?;
+      fronts = queues_in_front c.in-Printed-Close.price (book_of d) (and_parts (counts_fit d) (queues_fit (book_of d)) s.formed).1;
     }
+
+pub returns-in-NoPrice-Trading-clause-came : goal.returns-in-NoPrice-Trading-clause-came
+returns-in-NoPrice-Trading-clause-came g c grid =
+    let d = contents c.args.desk.now in
+    let p = page c.args.report.now in
+    let x = c.open_without_price in
+    let v = venue grid (g.C.Collar.allows c.args.collar.now) in
+    let i = c.in-NoPrice-Trading in
+    opening_as (capacity d) v _ _ (book_of d) _ _ d p (contents x.new.desk) (page x.new.report) i.is-1 i.is-0 (trading_unprinted (capacity d) v d p (contents x.new.desk) (page x.new.report) (x.ensures.came grid))
+
+pub returns-in-NoPrice-Close-clause-came : goal.returns-in-NoPrice-Close-clause-came
+returns-in-NoPrice-Close-clause-came g c grid =
+    let d = contents c.args.desk.now in
+    let p = page c.args.report.now in
+    let x = c.close_unprinted in
+    let v = venue grid (g.C.Collar.allows c.args.collar.now) in
+    let i = c.in-NoPrice-Close in
+    opening_as (capacity d) v _ _ (book_of d) _ _ d p (contents x.new.desk) (page x.new.report) i.is-1 i.is-0 (closed_unprinted (capacity d) v d p (contents x.new.desk) (page x.new.report) (x.ensures.came (capacity d)))
+
+pub returns-in-Printed-Trading-clause-came : goal.returns-in-Printed-Trading-clause-came
+returns-in-Printed-Trading-clause-came g c grid =
+    let d = contents c.args.desk.now in
+    let p = page c.args.report.now in
+    let x = c.open_at_price in
+    let v = venue grid (g.C.Collar.allows c.args.collar.now) in
+    let i = c.in-Printed-Trading in
+    opening_as (capacity d) v _ _ (book_of d) _ _ d p (contents x.new.desk) (page x.new.report) i.is-1 i.is-0 (trading_printed (capacity d) v d p (contents x.new.desk) (page x.new.report) i.price i.volume-0 (x.ensures.came grid))
+
+pub returns-in-Printed-Close-clause-came : goal.returns-in-Printed-Close-clause-came
+returns-in-Printed-Close-clause-came g c grid =
+    let d = contents c.args.desk.now in
+    let p = page c.args.report.now in
+    let x = c.print_and_close in
+    let v = venue grid (g.C.Collar.allows c.args.collar.now) in
+    let i = c.in-Printed-Close in
+    opening_as (capacity d) v _ _ (book_of d) _ _ d p (contents x.new.desk) (page x.new.report) i.is-1 i.is-0 (closed_printed (capacity d) v d p (contents x.new.desk) (page x.new.report) i.price i.volume-0 (x.ensures.came (capacity d) (ready_page d p c.requires.sound c.requires.fresh)))
