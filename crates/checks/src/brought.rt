@@ -15,21 +15,17 @@ pub fn check_lawful<G: PriceGrid>(grid: &G, part: Part, p: u32) -> Result<(), Un
     if p == 0 {
         return Ok(());
     }
-    match grid.check(p) {
-        Ok(()) => Ok(()),
-        Err(fault) => Err(Unlawful { part, fault }),
-    }
+    grid.check(p).map_err(|fault| Unlawful { part, fault })
 }
 
 // Whether a phase takes a ticket of this validity.
 fn takes(phase: Phase, validity: Validity) -> bool
     ensures { result ≡ takes_validity phase validity }
 {
-    match (validity, phase) {
-        (_, Phase::Ended) => false,
-        (Validity::Ioc, Phase::Call) => false,
-        (_, Phase::Call) => true,
-        (_, Phase::Continuous) => true,
+    match phase {
+        Phase::Ended => false,
+        Phase::Call => !matches!(validity, Validity::Ioc),
+        Phase::Continuous => true,
     }
 }
 
