@@ -4,7 +4,7 @@ ghost use Rattle.rules.specs.declared.order.Side.{Side};
 ghost use Rattle.trading.specs.Queues.{all_pass, in_order};
 ghost use Rattle.trading.specs.Ranges.{order_fits, stop_fits};
 
-use crate::ranges::{is_number, is_quantity, may_stand, same_side};
+use crate::ranges::{is_number, is_quantity, may_stand};
 use grid::is_price;
 use queue::Ranked;
 use rules::{Order, Side};
@@ -22,7 +22,7 @@ impl Fitting for Order {
     ghost fits = { order_fits };
 
     fn is_fit(&self, side: Side) -> bool {
-        same_side(self.side, side)
+        self.side == side
             && is_number(self.number)
             && is_quantity(self.open)
             && may_stand(self.limit, self.validity)
@@ -44,31 +44,21 @@ impl Fitting for StopOrder {
 fn all_fit<R: Fitting>(queue: &[R], side: Side) -> bool
     ensures { result ≡ all_pass (R.fits side) queue.now }
 {
-    for x in queue {
-        if !x.is_fit(side) {
-            return false;
-        }
-    }
-    true
+    queue.iter().all(|x| x.is_fit(side))
 }
 
 // No record is ahead of the one before it.
 fn in_order<R: Ranked>(queue: &[R]) -> bool
     ensures { result ≡ in_order R.ahead queue.now }
 {
-    for i in 1..queue.len() {
-        if queue[i].precedes(&queue[i - 1]) {
-            return false;
-        }
-    }
-    true
+    queue.iter().is_sorted_by(|a, b| !b.precedes(a))
 }
 
-// The first `count` records of a table fit the side, and stand in order.
+// The first `count` records of a table fit the side, and stand in order. The count stands in the state of a book, apart from the table.
 pub fn begins_with_queue<R: Fitting + Ranked>(table: &[R], count: usize, side: Side) -> bool
     requires { count ≤ length table.now }
     ensures { result ≡ (all_pass (R.fits side) (take count table.now) && in_order R.ahead (take count table.now)) }
 {
-    let queue = &table[0..count];
+    let queue = &table[..count];
     all_fit(queue, side) && in_order(queue)
 }

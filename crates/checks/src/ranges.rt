@@ -1,44 +1,31 @@
 // Ranges of numbers, and what goes together.
 ghost use Rattle.std.specs.Prelude.{◌≡◌};
-ghost use Rattle.trading.specs.Ranges.{is_number, is_quantity, pair_up, same_side, may_stand};
+ghost use Rattle.trading.specs.Ranges.{is_number, is_quantity, pair_up, may_stand};
 
 use grid::is_price;
-use rules::{Side, Validity};
+use rules::Validity;
 use trading::Kind;
 
 pub fn is_number(n: u32) -> bool
     ensures { result ≡ is_number n }
 {
-    1 <= n && n <= 99_999_999
+    (1..=99_999_999).contains(&n)
 }
 
 pub fn is_quantity(q: u32) -> bool
     ensures { result ≡ is_quantity q }
 {
-    1 <= q && q <= 49_999_999
+    (1..=49_999_999).contains(&q)
 }
 
 // Whether kind, limit, trigger and validity of a ticket go together.
 pub fn pair_up(kind: Kind, limit: u32, trigger: u32, validity: Validity) -> bool
     ensures { result ≡ pair_up kind limit trigger validity }
 {
-    match (kind, validity) {
-        (Kind::Limit, _) => limit != 0 && trigger == 0,
-        (Kind::Market, Validity::Vfu) => limit == 0 && trigger == 0,
-        (Kind::Market, _) => false,
-        (Kind::Stop, Validity::Day) => limit != 0 && trigger != 0,
-        (Kind::Stop, _) => false,
-    }
-}
-
-pub fn same_side(a: Side, b: Side) -> bool
-    ensures { result ≡ same_side a b }
-{
-    match (a, b) {
-        (Side::Buy, Side::Buy) => true,
-        (Side::Buy, Side::Sell) => false,
-        (Side::Sell, Side::Buy) => false,
-        (Side::Sell, Side::Sell) => true,
+    match kind {
+        Kind::Limit => limit != 0 && trigger == 0,
+        Kind::Market => matches!(validity, Validity::Vfu) && limit == 0 && trigger == 0,
+        Kind::Stop => matches!(validity, Validity::Day) && limit != 0 && trigger != 0,
     }
 }
 

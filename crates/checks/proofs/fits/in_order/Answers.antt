@@ -1,12 +1,9 @@
-use Rattle.std.proofs.Common.{rules}
-use Rattle.checks.proofs.Passing.{order_yes, order_no, order_all}
+use Rattle.std.proofs.Common.{ap, ◌∙◌, rules, tests}
+use Rattle.trading.specs.Queues.{in_order}
+use Rattle.checks.proofs.Passing.{order_walked}
 use Rattle.checks.proofs.fits.in_order.Goals as goal
 
-pub loop-i-preserved : goal.loop-i-preserved
-loop-i-preserved g c = search (rules, order_yes)
-
-pub returns-then-precedes : goal.returns-then-precedes
-returns-then-precedes g c = search (rules, order_no)
-
 pub returns : goal.returns
-returns g c = search (rules, order_all)
+returns g c =
+    let ahead = g.R.Ranked.ahead in
+    order_walked _ ahead (λ f f' x y b k. search (rules, tests)) c.iter.result _ c.is_sorted_by.result c.is_sorted_by.ensures.ran ∙ ap (in_order ahead) c.iter.ensures.rest
