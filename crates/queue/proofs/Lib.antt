@@ -1,3 +1,3 @@
 pub mod Firsts
-pub mod Gaps
+pub mod Shifts
 pub mod Ordered

@@ -14,11 +14,7 @@ module _ {R : Type 0} (ahead : R → R → Bool) (never_both : (a b : R) → ahe
   pub in_order_joined : (r : R) (xs : List R) → in_order ahead xs ≡ true → in_order ahead (joined ahead r xs) ≡ true
   unfolding joined
   in_order_joined r [] o = refl
-  in_order_joined r (x ∷ xs) o =
-      let both = and_parts (not_ahead ahead x xs) (in_order ahead xs) o in
-      cond_both (ahead r x) _ _ (λ zs. in_order ahead zs ≡ true)
-      (λ e. and_from _ _ (ap not (never_both r x e)) o)
-      (λ e. and_from _ _ (next_joined x r xs e both.0) (in_order_joined r xs both.1))
+  in_order_joined r (x ∷ xs) o = grind (arith, never_both, next_joined x r xs, in_order_joined r xs)
 
   module _ (trans : (a b c : R) → ahead a b ≡ true → ahead b c ≡ true → ahead a c ≡ true)
       (level : (a b c : R) → ahead a b ≡ false → ahead b a ≡ false → ahead b c ≡ false → ahead c b ≡ false → (ahead a c ≡ false) × (ahead c a ≡ false)) where
@@ -37,6 +33,4 @@ module _ {R : Type 0} (ahead : R → R → Bool) (never_both : (a b : R) → ahe
     in_order_removed [] zero o = refl
     in_order_removed [] (suc i) o = refl
     in_order_removed (x ∷ xs) zero o = (and_parts (not_ahead ahead x xs) (in_order ahead xs) o).1
-    in_order_removed (x ∷ xs) (suc i) o =
-        let both = and_parts (not_ahead ahead x xs) (in_order ahead xs) o in
-        and_from _ _ (next_removed x xs i both.0 both.1) (in_order_removed xs i both.1)
+    in_order_removed (x ∷ xs) (suc i) o = grind (arith, next_removed x xs i, in_order_removed xs i)

@@ -1,4 +1,4 @@
-// Queues by their table and count.
+// Queues by their table and count: the count stands in the state of a book, apart from the table.
 ghost use Rattle.std.specs.Prelude.{◌≡◌, ◌+◌, ◌-◌, ◌<◌, ◌≤◌, length, take, drop, nat_eq};
 ghost use Rattle.std.specs.List.{remove};
 ghost use Rattle.trading.specs.Queues.{joined};
@@ -13,7 +13,7 @@ pub fn find_number<R: Numbered>(queue: &[R], number: u32) -> Option<usize>
     queue.iter().position(|x| x.number() == number)
 }
 
-// A record joins the queue of the first `count` records of a table. The count stands in the state of a book, apart from the table.
+// A record joins the queue of the first `count` records of a table.
 pub fn join_table<R: Ranked + Copy>(table: &mut [R], count: usize, r: R)
     requires { count < length table.old }
     ensures queue { take (count + 1) table.new ≡ joined R.ahead r (take count table.old) }

@@ -3,7 +3,7 @@ use Rattle.std.specs.List.{insert}
 use Rattle.trading.specs.Queues.{in_order}
 use Rattle.queue.specs.Places.{first_place}
 use Rattle.queue.specs.Lent.{listed}
-use Rattle.queue.proofs.Gaps.{moved_back, joined_is}
+use Rattle.queue.proofs.Shifts.{moved_back, joined_is}
 use Rattle.queue.proofs.Ordered.{in_order_joined}
 use Rattle.queue.proofs.queue.Queue.join.Goals as goal
 

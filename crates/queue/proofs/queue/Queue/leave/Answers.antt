@@ -1,7 +1,7 @@
 use Rattle.std.proofs.Common.{◌≡◌, true, sym, refl, subst, arith}
 use Rattle.trading.specs.Queues.{in_order}
 use Rattle.queue.specs.Lent.{listed}
-use Rattle.queue.proofs.Gaps.{moved_up}
+use Rattle.queue.proofs.Shifts.{moved_up}
 use Rattle.queue.proofs.Ordered.{in_order_removed}
 use Rattle.queue.proofs.queue.Queue.leave.Goals as goal
 
