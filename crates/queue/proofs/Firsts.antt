@@ -41,10 +41,7 @@ module _ {R : Type 0} (passes : R → Bool) where
   first_none : (xs : List R) → length xs ≤ first_place passes xs → first_that passes xs ≡ None
   unfolding first_that
   first_none [] h = refl
-  first_none (x ∷ xs) h = elim (cases_Bool (passes x)) [
-    | inl t ↦ absurd (omega (arith, cond-false (not (passes x)) (1 + first_place passes xs) 0 (not_from_true _ t)))
-    | inr f ↦ cond-false _ _ _ f ∙ first_none xs (omega (arith, cond-true (not (passes x)) (1 + first_place passes xs) 0 (not_from_false _ f)))
-  ]
+  first_none (x ∷ xs) h = grind (arith, first_none xs)
 
   -- the library's search finds it
   pub position_first : (xs : List R) → FirstFound passes xs (position passes xs)

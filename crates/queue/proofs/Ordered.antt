@@ -9,7 +9,7 @@ module _ {R : Type 0} (ahead : R → R → Bool) (never_both : (a b : R) → ahe
   next_joined : (y r : R) (xs : List R) → ahead r y ≡ false → not_ahead ahead y xs ≡ true → not_ahead ahead y (joined ahead r xs) ≡ true
   unfolding joined
   next_joined y r [] e n = ap not e
-  next_joined y r (x ∷ xs) e n = cond_both (ahead r x) _ _ (λ zs. not_ahead ahead y zs ≡ true) (λ _. ap not e) (λ _. n)
+  next_joined y r (x ∷ xs) e n = grind arith
 
   pub in_order_joined : (r : R) (xs : List R) → in_order ahead xs ≡ true → in_order ahead (joined ahead r xs) ≡ true
   unfolding joined
@@ -26,11 +26,11 @@ module _ {R : Type 0} (ahead : R → R → Bool) (never_both : (a b : R) → ahe
     next_removed x [] zero n o = refl
     next_removed x [] (suc i) n o = refl
     next_removed x (y ∷ []) zero n o = refl
-    next_removed x (y ∷ (z ∷ zs)) zero n o = ap not (behind x y z (not-true _ n) (not-true _ (and_parts (not (ahead z y)) (in_order ahead (z ∷ zs)) o).0))
+    next_removed x (y ∷ (z ∷ zs)) zero n o = grind (arith, behind x y z)
     next_removed x (y ∷ ys) (suc i) n o = n
 
     pub in_order_removed : (xs : List R) (i : ℕ) → in_order ahead xs ≡ true → in_order ahead (remove xs i) ≡ true
     in_order_removed [] zero o = refl
     in_order_removed [] (suc i) o = refl
-    in_order_removed (x ∷ xs) zero o = (and_parts (not_ahead ahead x xs) (in_order ahead xs) o).1
+    in_order_removed (x ∷ xs) zero o = grind arith
     in_order_removed (x ∷ xs) (suc i) o = grind (arith, next_removed x xs i, in_order_removed xs i)

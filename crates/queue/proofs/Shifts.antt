@@ -32,8 +32,8 @@ module _ {R : Type 0} where
       let at = paste xs (i + 1) (drop i xs) m in
       let whole : i + m ≡ n = omega arith in
       let more : i + 1 + m ≡ n + 1 = omega arith in (
-        ap (λ zs. take (n + 1) (set zs i r)) e ∙ ap (λ k. take k (set at i r)) (sym more) ∙ back xs i m r (omega arith) ∙ ap (λ k. insert (take k xs) i r) whole,
-        drop-set-lt (n + 1) ys i r (omega arith) ∙ ap (λ zs. drop (n + 1) zs) e ∙ ap (λ k. drop k at) (sym more) ∙ drop-paste xs (i + 1) (drop i xs) m (omega arith) (omega (arith, length-drop i xs)) ∙ ap (λ k. drop k xs) more,
+        grind (arith, back xs i m r),
+        grind (arith, drop-set-lt, length-drop i xs, drop-paste xs (i + 1) (drop i xs) m),
       )
 
   pub moved_up : (xs ys : List R) (n i : ℕ) → i < n → n ≤ length xs → ys ≡ copy_within xs (i + 1) n i → (take (n - 1) ys ≡ remove (take n xs) i) × (drop n ys ≡ drop n xs)
@@ -43,8 +43,8 @@ module _ {R : Type 0} where
       let less : i + m ≡ n - 1 = omega arith in
       let whole : i + 1 + m ≡ n = omega arith in
       let last : i + m + 1 ≡ n = omega arith in (
-        ap (λ zs. take (n - 1) zs) e ∙ ap (λ k. take k at) (sym less) ∙ up xs i m (omega arith) ∙ ap (λ k. remove (take k xs) i) whole,
-        ap (λ zs. drop n zs) e ∙ ap (λ k. drop k at) (sym last) ∙ drop_more_same at xs (i + m) (drop-paste xs i (drop (i + 1) xs) m (omega arith) (omega (arith, length-drop (i + 1) xs))) ∙ ap (λ k. drop k xs) last,
+        grind (arith, up xs i m),
+        grind (arith, length-drop (i + 1) xs, drop-paste xs i (drop (i + 1) xs) m, drop_more_same at xs (i + m)),
       )
 
   -- joining is putting r before the first record that it is ahead of
