@@ -1,7 +1,6 @@
 -- A queue in order stays in order when a record joins or leaves.
 use Rattle.std.proofs.Common.{◌≡◌, ℕ, zero, suc, Bool, true, false, not, List, [], ◌∷◌, refl, ap, arith}
 use Rattle.std.specs.List.{remove}
-use Rattle.std.proofs.lemmas.Bool.{not-true, and_from, and_parts, cond_both}
 use Rattle.trading.specs.Queues.{joined, not_ahead, in_order}
 
 module _ {R : Type 0} (ahead : R → R → Bool) (never_both : (a b : R) → ahead a b ≡ true → ahead b a ≡ false) where

@@ -1,5 +1,5 @@
 -- Joining and leaving as a table shows them: the records behind a place move by one.
-use Rattle.std.proofs.Common.{◌≡◌, ℕ, ◌+◌, ◌-◌, ◌<◌, ◌≤◌, Bool, true, false, cond, not, List, [], ◌∷◌, ◌++◌, length, take, drop, set, sym, refl, ap, ◌∙◌, add-one, one-add, append_assoc, drop-set-lt, arith}
+use Rattle.std.proofs.Common.{◌≡◌, ℕ, ◌+◌, ◌-◌, ◌<◌, ◌≤◌, Bool, true, false, cond, not, List, [], ◌∷◌, length, take, drop, set, refl, ap, add-one, one-add, append_assoc, drop-set-lt, arith}
 use lib.Seq.{paste, take-set-lt}
 use Rattle.std.specs.List.{insert, remove, copy_within}
 use Rattle.std.proofs.lemmas.List.{take-take, drop-take, take_more_set, set-append_left, length-take-le, length-drop}
@@ -11,41 +11,22 @@ use Rattle.queue.specs.Places.{first_place}
 module _ {R : Type 0} where
   -- m records from i on move back by one, and r takes the place at i
   back : (xs : List R) (i m : ℕ) (r : R) → i + m < length xs → take (i + 1 + m) (set (paste xs (i + 1) (drop i xs) m) i r) ≡ insert (take (i + m) xs) i r
-  back xs i m r h =
-      take-set-lt (i + 1 + m) (paste xs (i + 1) (drop i xs) m) i r (omega arith)
-      ∙ ap (λ ys. set ys i r) (take-paste xs (i + 1) (drop i xs) m (omega arith) (omega (arith, length-drop i xs)))
-      ∙ set-append_left (take (i + 1) xs) (take m (drop i xs)) i r (omega (arith, length-take-le (i + 1) xs (omega arith)))
-      ∙ ap (λ ys. ys ++ take m (drop i xs)) (sym (take-set-lt (i + 1) xs i r (omega arith)) ∙ take_more_set xs i r (omega arith))
-      ∙ append_assoc (take i xs) (r ∷ []) (take m (drop i xs))
-      ∙ sym (rw (take-take i (i + m) xs (omega arith), drop-take i m xs) refl)
+  back xs i m r h = grind (arith, take-set-lt, take-paste xs (i + 1) (drop i xs) m, length-drop i xs, set-append_left (take (i + 1) xs) (take m (drop i xs)) i r, length-take-le (i + 1) xs, take_more_set xs i r, append_assoc (take i xs) (r ∷ []) (take m (drop i xs)), take-take i (i + m) xs, drop-take i m xs)
 
   -- m records behind i move up by one
   up : (xs : List R) (i m : ℕ) → i + 1 + m ≤ length xs → take (i + m) (paste xs i (drop (i + 1) xs) m) ≡ remove (take (i + 1 + m) xs) i
-  up xs i m h =
-      take-paste xs i (drop (i + 1) xs) m (omega arith) (omega (arith, length-drop (i + 1) xs))
-      ∙ sym (rw (take-take i (i + 1 + m) xs (omega arith), ← add-one i, drop-take (i + 1) m xs) refl)
+  up xs i m h = grind (arith, take-paste xs i (drop (i + 1) xs) m, length-drop (i + 1) xs, take-take i (i + 1 + m) xs, drop-take (i + 1) m xs, add-one i)
 
   -- the same in the first n records of a table, and what stands beyond stays
   pub moved_back : (xs ys : List R) (n i : ℕ) (r : R) → i ≤ n → n < length xs → ys ≡ copy_within xs i n (i + 1) → (take (n + 1) (set ys i r) ≡ insert (take n xs) i r) × (drop (n + 1) (set ys i r) ≡ drop (n + 1) xs)
   moved_back xs ys n i r le lt e =
       let m = n - i in
-      let at = paste xs (i + 1) (drop i xs) m in
-      let whole : i + m ≡ n = omega arith in
-      let more : i + 1 + m ≡ n + 1 = omega arith in (
-        grind (arith, back xs i m r),
-        grind (arith, drop-set-lt, length-drop i xs, drop-paste xs (i + 1) (drop i xs) m),
-      )
+      (grind (arith, back xs i m r), grind (arith, drop-set-lt, length-drop i xs, drop-paste xs (i + 1) (drop i xs) m))
 
   pub moved_up : (xs ys : List R) (n i : ℕ) → i < n → n ≤ length xs → ys ≡ copy_within xs (i + 1) n i → (take (n - 1) ys ≡ remove (take n xs) i) × (drop n ys ≡ drop n xs)
   moved_up xs ys n i lt le e =
       let m = n - (i + 1) in
-      let at = paste xs i (drop (i + 1) xs) m in
-      let less : i + m ≡ n - 1 = omega arith in
-      let whole : i + 1 + m ≡ n = omega arith in
-      let last : i + m + 1 ≡ n = omega arith in (
-        grind (arith, up xs i m),
-        grind (arith, length-drop (i + 1) xs, drop-paste xs i (drop (i + 1) xs) m, drop_more_same at xs (i + m)),
-      )
+      (grind (arith, up xs i m), grind (arith, length-drop (i + 1) xs, drop-paste xs i (drop (i + 1) xs) m, drop_more_same (paste xs i (drop (i + 1) xs) m) xs (i + m)))
 
   -- joining is putting r before the first record that it is ahead of
   pub joined_is : (ahead : R → R → Bool) (r : R) (xs : List R) → joined ahead r xs ≡ insert xs (first_place (ahead r) xs) r
