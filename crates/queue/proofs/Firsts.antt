@@ -28,24 +28,24 @@ module _ {R : Type 0} (passes : R → Bool) where
     changed = λ change d. cond-false _ _ _ e ∙ ap (λ ys. x ∷ ys) (at.changed change d);
   }
 
-  first_at : (xs : List R) → first_place passes xs < length xs → FirstAt passes xs (first_place passes xs)
-  first_at [] h = absurd (omega arith)
-  first_at (x ∷ xs) h = elim (cases_Bool (passes x)) [
-    | inl t ↦ subst (FirstAt passes (x ∷ xs)) (sym (cond-false _ _ _ (not_from_true _ t))) (first_here x xs t)
+  pub first_at : (xs : List R) (i : ℕ) → first_place passes xs ≡ i → i < length xs → FirstAt passes xs i
+  first_at [] i e h = absurd (omega arith)
+  first_at (x ∷ xs) i e h = elim (cases_Bool (passes x)) [
+    | inl t ↦ subst (FirstAt passes (x ∷ xs)) (sym (cond-false _ _ _ (not_from_true _ t)) ∙ e) (first_here x xs t)
     | inr f ↦
-        let back : first_place passes (x ∷ xs) ≡ suc (first_place passes xs) = cond-true _ _ _ (not_from_false _ f) ∙ one-add _ in
-        subst (FirstAt passes (x ∷ xs)) (sym back) (first_later x xs _ f (first_at xs (omega arith)))
+        let up : suc (first_place passes xs) ≡ i = sym (one-add _) ∙ sym (cond-true _ _ _ (not_from_false _ f)) ∙ e in
+        subst (FirstAt passes (x ∷ xs)) up (first_later x xs _ f (first_at xs _ refl (omega arith)))
   ]
 
   -- none passes
-  first_none : (xs : List R) → length xs ≤ first_place passes xs → first_that passes xs ≡ None
+  pub first_none : (xs : List R) → length xs ≤ first_place passes xs → first_that passes xs ≡ None
   unfolding first_that
   first_none [] h = refl
   first_none (x ∷ xs) h = grind (arith, first_none xs)
 
   -- the library's search finds it
   pub position_first : (xs : List R) → FirstFound passes xs (position passes xs)
-  position_first xs = cond_both _ _ _ (FirstFound passes xs) (λ e. first_at xs (ltb-true _ _ e)) (λ e. first_none xs (ltb-false _ _ e))
+  position_first xs = cond_both _ _ _ (FirstFound passes xs) (λ e. first_at xs _ refl (ltb-true _ _ e)) (λ e. first_none xs (ltb-false _ _ e))
 
   -- or tells that it is at the end
   pub position_or_end : (xs : List R) → unwrap_or (position passes xs) (length xs) ≡ first_place passes xs
