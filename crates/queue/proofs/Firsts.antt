@@ -28,7 +28,7 @@ module _ {R : Type 0} (passes : R → Bool) where
     changed = λ change d. cond-false _ _ _ e ∙ ap (λ ys. x ∷ ys) (at.changed change d);
   }
 
-  pub first_at : (xs : List R) (i : ℕ) → first_place passes xs ≡ i → i < length xs → FirstAt passes xs i
+  first_at : (xs : List R) (i : ℕ) → first_place passes xs ≡ i → i < length xs → FirstAt passes xs i
   first_at [] i e h = absurd (omega arith)
   first_at (x ∷ xs) i e h = elim (cases_Bool (passes x)) [
     | inl t ↦ subst (FirstAt passes (x ∷ xs)) (sym (cond-false _ _ _ (not_from_true _ t)) ∙ e) (first_here x xs t)
@@ -38,7 +38,7 @@ module _ {R : Type 0} (passes : R → Bool) where
   ]
 
   -- none passes
-  pub first_none : (xs : List R) → length xs ≤ first_place passes xs → first_that passes xs ≡ None
+  first_none : (xs : List R) → length xs ≤ first_place passes xs → first_that passes xs ≡ None
   unfolding first_that
   first_none [] h = refl
   first_none (x ∷ xs) h = grind (arith, first_none xs)
