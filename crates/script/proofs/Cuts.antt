@@ -2,12 +2,13 @@
 use Rattle.std.proofs.Common.{◌≡◌, ℕ, ◌+◌, ◌<◌, Bool, true, false, cond, not, List, [], ◌∷◌, length, take, drop, sym, refl, ap, ◌∙◌, ⊎_elim, one-add, arith}
 use Rattle.std.specs.List.{prefix_len}
 use Rattle.std.proofs.lemmas.Bool.{cases_Bool, both_ways}
+use Rattle.std.proofs.lemmas.List.Sums.{prefix_len-le-length}
 use Rattle.script.specs.Words.{is_gap, at_gap, words_of}
 
-abbrev pub in_word : ℕ → Bool
+abbrev in_word : ℕ → Bool
 in_word b = not (is_gap b)
 
-pub skip : (l : List ℕ) → words_of (drop (prefix_len is_gap l) l) ≡ words_of l
+skip : (l : List ℕ) → words_of (drop (prefix_len is_gap l) l) ≡ words_of l
 unfolding words_of
 skip [] = refl
 skip (b ∷ bs) =
@@ -16,7 +17,7 @@ skip (b ∷ bs) =
     (λ e. ap (λ t. words_of (drop (cond t (1 + prefix_len is_gap bs) 0) (b ∷ bs))) e)
     (cases_Bool (is_gap b))
 
-pub stops : (l : List ℕ) → 0 < length (drop (prefix_len is_gap l) l) → at_gap (drop (prefix_len is_gap l) l) ≡ false
+stops : (l : List ℕ) → 0 < length (drop (prefix_len is_gap l) l) → at_gap (drop (prefix_len is_gap l) l) ≡ false
 stops [] h = absurd (omega arith)
 stops (b ∷ bs) h =
     ⊎_elim
@@ -28,11 +29,11 @@ none_leads : (l : List ℕ) → at_gap l ≡ true → prefix_len in_word l ≡ 0
 none_leads [] e = refl
 none_leads (b ∷ bs) e = rw e
 
-pub some_lead : (l : List ℕ) → at_gap l ≡ false → 0 < prefix_len in_word l
+some_lead : (l : List ℕ) → at_gap l ≡ false → 0 < prefix_len in_word l
 some_lead [] e = absurd (both_ways true e refl)
 some_lead (b ∷ bs) e = rw e (omega arith)
 
-pub cut : (l : List ℕ) → at_gap l ≡ false → words_of l ≡ take (prefix_len in_word l) l ∷ words_of (drop (prefix_len in_word l) l)
+cut : (l : List ℕ) → at_gap l ≡ false → words_of l ≡ take (prefix_len in_word l) l ∷ words_of (drop (prefix_len in_word l) l)
 unfolding words_of
 cut [] e = absurd (both_ways true e refl)
 cut (b ∷ bs) e =
@@ -51,7 +52,7 @@ no_words = refl
 
 -- what is left after the gap in front: n bytes of gap, then t
 module _ (l t : List ℕ) (n : ℕ) (e : n ≡ prefix_len is_gap l) (f : t ≡ drop n l) where
-  pub skipped : words_of t ≡ words_of l
+  skipped : words_of t ≡ words_of l
   skipped = rw (f, e) (skip l)
 
   pub none_here : length t ≡ 0 → words_of l ≡ []
@@ -65,3 +66,6 @@ module _ (l t : List ℕ) (n : ℕ) (e : n ≡ prefix_len is_gap l) (f : t ≡ d
 
   pub first : 0 < length t → (k : ℕ) → k ≡ prefix_len in_word t → (w u : List ℕ) → w ≡ take k t → u ≡ drop k t → words_of l ≡ w ∷ words_of u
   first h k g w u p q = sym skipped ∙ rw (p, q, g) (cut t (at_word h))
+
+-- what cutting off a word takes
+pub ruleset cutting = (prefix_len-le-length, none_here, long, first)

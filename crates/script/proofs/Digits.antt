@@ -25,3 +25,6 @@ module _ (w : List ℕ) (i n : ℕ) (r : Option ℕ) (e : within32 (digits_after
   pub all_read : length w ≤ i → n < 2 ^ 32 → Some n ≡ r
   unfolding digits_after
   all_read h small = rw (drop_all i w h, lt-ltb n (2 ^ 32) small) at e
+
+-- what reading a number takes
+pub ruleset reading = (no_digit, digit, too_large, all_read)

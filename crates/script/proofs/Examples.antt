@@ -6,7 +6,7 @@ use Rattle.script.specs.declared.statement.PlainCollar.TheVariants.{FixedBand}
 use Rattle.script.specs.declared.statement.ScriptFault.TheVariants.{UnknownWord, MissingWord, ExpectedNumber, UnexpectedWord, ExtraWord}
 use Rattle.rules.specs.declared.order.Side.TheVariants.{Buy, Sell}
 use Rattle.script.specs.declared.statement.Statement.TheVariants.{Blank, Collar, Order}
-use Rattle.script.specs.Grammar.{Reading, plain, table, row, statement_of, is, word_here, number_here, end_here, even, rows_after, rows_here, tick_table, plain_collar, around_static, collar, order_price, order, one_price, grid_of, statement_as}
+use Rattle.script.specs.Grammar.{Reading, plain, table, row, statement_of, is, word_here, number_here, end_here, even, row_here, rows_after, rows_here, tick_table, plain_collar, around_static, collar, order_price, order, one_price, grid_of, price_or_order, statement_as}
 use Rattle.script.specs.Numbers.{digits_after}
 use Rattle.script.specs.Words.{is_gap, words_of}
 
@@ -28,5 +28,5 @@ examples :
     × (says (codes "grid table end 99") ≡ table (Ok ([], 99)))
     × (says (codes "grid table 1 end 99") ≡ table (Err (ExpectedNumber 4)))
     × (says (codes "grid table 1 2") ≡ table (Err (MissingWord 5)))
-unfolding is_gap words_of digits_after is word_here number_here end_here even rows_after rows_here tick_table plain_collar around_static collar order_price order one_price grid_of statement_as
+unfolding is_gap words_of digits_after is word_here number_here end_here even row_here rows_after rows_here tick_table plain_collar around_static collar order_price order one_price grid_of price_or_order statement_as
 examples = (refl, refl, refl, refl, refl, refl, refl, refl, refl, refl, refl, refl, refl, refl)

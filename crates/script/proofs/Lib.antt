@@ -1,5 +1,4 @@
 pub mod Cuts
 pub mod Digits
-pub mod Parts
 pub mod Rows
 pub mod Examples

@@ -70,6 +70,15 @@ even l =
 abbrev pub row : ℕ → ℕ → TickRow
 row start step = record { start = start; step = step }
 
+-- START STEP | end
+unfoldable pub row_here : Left → Part (Option TickRow)
+row_here l =
+    and_then (word_here l) (λ w l.
+    cond (is w (codes "end")) (Ok (None, l))
+    (and_then (leaving l (number_at l.read (number_of w))) (λ start l.
+    and_then (number_here l) (λ step l.
+    Ok (Some (row start step), l)))))
+
 -- [START STEP ..] end, after the rows read before and n words
 unfoldable pub rows_after : List TickRow → ℕ → List (List ℕ) → Part (List TickRow)
 rows_after rows n [] = Err (MissingWord (n + 1))
@@ -157,18 +166,23 @@ abbrev pub is_comment : List ℕ → Bool
 is_comment [] = false
 is_comment (b ∷ bs) = b == 35
 
+-- static PRICE | last PRICE | buy .. | sell .. | open, of which w is the first word
+unfoldable pub price_or_order : List ℕ → Left → Reading
+price_or_order w l =
+    cond (is w (codes "static")) (plain (one_price Static l))
+    (cond (is w (codes "last")) (plain (one_price Last l))
+    (cond (is w (codes "buy")) (plain (order Buy l))
+    (cond (is w (codes "sell")) (plain (order Sell l))
+    (cond (is w (codes "open")) (plain (end_here Open l))
+    (plain (Err (UnknownWord l.read)))))))
+
 -- the statement whose first word is w
 unfoldable pub statement_as : List ℕ → Left → Reading
 statement_as w l =
     cond (is_comment w) (plain (Ok Blank))
     (cond (is w (codes "grid")) (grid_of (word_here l))
     (cond (is w (codes "collar")) (plain (collar l))
-    (cond (is w (codes "static")) (plain (one_price Static l))
-    (cond (is w (codes "last")) (plain (one_price Last l))
-    (cond (is w (codes "buy")) (plain (order Buy l))
-    (cond (is w (codes "sell")) (plain (order Sell l))
-    (cond (is w (codes "open")) (plain (end_here Open l))
-    (plain (Err (UnknownWord l.read))))))))))
+    (price_or_order w l)))
 
 -- what the words of a line say
 abbrev pub statement_of : List (List ℕ) → Reading

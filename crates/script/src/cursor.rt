@@ -1,7 +1,7 @@
 // Goes through the words of a line.
 ghost use Rattle.std.specs.Prelude.{◌≡◌, not, Ok, Err, MatchResult};
 ghost use Rattle.std.specs.List.{prefix_len};
-ghost use Rattle.script.specs.Grammar.{is, is_comment, word_here, number_at, number_here, end_here};
+ghost use Rattle.script.specs.Grammar.{word_here, number_at, number_here, end_here};
 ghost use Rattle.script.specs.Numbers.{number_of};
 ghost use Rattle.script.specs.Words.{is_gap, words_of, left, Next};
 
@@ -9,46 +9,25 @@ use crate::numbers::number_of;
 use crate::words::Words;
 use crate::{ScriptFault, Statement};
 
+#[tactic(auto, unfolding(crate::specs::Words::is_gap))]
 fn is_gap(b: u8) -> bool
     ensures { result ≡ is_gap b }
 {
-    b == b' ' || b == b'\t' || b == b'\r'
+    matches!(b, b' ' | b'\t' | b'\r')
 }
 
 // How many bytes at the front part words.
 fn gap_len(line: &[u8]) -> usize
     ensures { result ≡ prefix_len is_gap line.now }
 {
-    let mut n = 0;
-    while n < line.len() && is_gap(line[n]) {
-        n += 1;
-    }
-    n
+    line.iter().take_while(|b| is_gap(**b)).count()
 }
 
 // How many bytes at the front part no words.
 fn word_len(line: &[u8]) -> usize
     ensures { result ≡ prefix_len (λ b. not (is_gap b)) line.now }
 {
-    let mut n = 0;
-    while n < line.len() && !is_gap(line[n]) {
-        n += 1;
-    }
-    n
-}
-
-// Whether a word is this text.
-pub fn is(word: &[u8], text: &[u8]) -> bool
-    ensures { result ≡ is word.now text.now }
-{
-    word == text
-}
-
-// Whether a word begins a comment.
-pub fn is_comment(word: &[u8]) -> bool
-    ensures { result ≡ is_comment word.now }
-{
-    matches!(word, [b'#', ..])
+    line.iter().take_while(|b| !is_gap(**b)).count()
 }
 
 impl<'a> Words<'a> {
@@ -63,6 +42,7 @@ impl<'a> Words<'a> {
     }
 
     // The next word, if there is one.
+    #[tactic(auto, using(crate::proofs::Cuts::cutting))]
     pub fn next(&mut self) -> Option<&'a [u8]>
         ensures { Next (left self.old) result (left self.new) }
     {
@@ -78,26 +58,22 @@ impl<'a> Words<'a> {
     }
 
     // The next word, which has to be there.
+    #[tactic(auto, unfolding(crate::specs::Grammar::word_here))]
     pub fn word(&mut self) -> Result<&'a [u8], ScriptFault>
         ensures { MatchResult result (λ w. word_here (left self.old) ≡ Ok (w.now, left self.new)) (λ f. word_here (left self.old) ≡ Err f) }
     {
-        match self.next() {
-            Some(word) => Ok(word),
-            None => Err(ScriptFault::MissingWord(self.place + 1)),
-        }
+        self.next().ok_or(ScriptFault::MissingWord(self.place + 1))
     }
 
     // The word read last, which has to be a number.
     pub fn as_number(&self, word: &[u8]) -> Result<u32, ScriptFault>
         ensures { result ≡ number_at (left self.now).read (number_of word.now) }
     {
-        match number_of(word) {
-            Some(x) => Ok(x),
-            None => Err(ScriptFault::ExpectedNumber(self.place)),
-        }
+        number_of(word).ok_or(ScriptFault::ExpectedNumber(self.place))
     }
 
     // The next word, which has to be a number.
+    #[tactic(auto, unfolding(crate::specs::Grammar::number_here))]
     pub fn number(&mut self) -> Result<u32, ScriptFault>
         ensures { MatchResult result (λ x. number_here (left self.old) ≡ Ok (x, left self.new)) (λ f. number_here (left self.old) ≡ Err f) }
     {
@@ -106,6 +82,7 @@ impl<'a> Words<'a> {
     }
 
     // The statement, after which no words may be left.
+    #[tactic(auto, unfolding(crate::specs::Grammar::end_here))]
     pub fn finish(&mut self, statement: Statement) -> Result<Statement, ScriptFault>
         ensures { result ≡ end_here statement (left self.old) }
     {

@@ -1,16 +1,16 @@
 // The grid statements.
 ghost use Rattle.std.specs.Prelude.{◌≡◌, ◌⊎◌, [], Ok, Err, MatchResult};
-ghost use Rattle.script.specs.Grammar.{even, grid_of, rows_here, Says, table, tick_table, word_here};
+ghost use Rattle.script.specs.Grammar.{even, grid_of, row_here, rows_here, Says, table, tick_table, word_here};
 ghost use Rattle.script.specs.Words.{left};
 ghost use Rattle.script.specs.declared.statement.ScriptFault.TheVariants.{NoMemory};
 
-use crate::cursor::is;
 use crate::words::Words;
 use crate::{ScriptFault, Statement};
 use std::alloc::Global;
 use ticks::TickRow;
 
 // FIRST STEP LAST
+#[tactic(auto, unfolding(crate::specs::Grammar::even))]
 fn even(words: &mut Words) -> Result<Statement, ScriptFault>
     ensures { result ≡ even (left words.old) }
 {
@@ -20,23 +20,35 @@ fn even(words: &mut Words) -> Result<Statement, ScriptFault>
     words.finish(Statement::GridEven { first, step, last })
 }
 
-// The rows of a tick table, up to the word end: START STEP ..
+// START STEP, or the word end, after which there are no more rows
+#[tactic(auto, unfolding(crate::specs::Grammar::is, crate::specs::Grammar::row_here))]
+fn tick_row(words: &mut Words) -> Result<Option<TickRow>, ScriptFault>
+    ensures { MatchResult result (λ r. row_here (left words.old) ≡ Ok (r, left words.new)) (λ f. row_here (left words.old) ≡ Err f) }
+{
+    match words.word()? {
+        b"end" => Ok(None),
+        word => {
+            let start = words.as_number(word)?;
+            let step = words.number()?;
+            Ok(Some(TickRow { start, step }))
+        }
+    }
+}
+
+// [START STEP ..] end
+#[tactic(auto, using(crate::proofs::Rows::turns, crate::proofs::Rows::row_less))]
 fn tick_rows(heap: Global, words: &mut Words) -> Result<Vec<TickRow>, ScriptFault>
     ensures { MatchResult result (λ v. rows_here [] (left words.old) ≡ Ok (v.items, left words.new)) (λ f. (f ≡ NoMemory) ⊎ (rows_here [] (left words.old) ≡ Err f)) }
 {
     let mut rows = Vec::new(heap);
-    loop {
-        let word = words.word()?;
-        if is(word, b"end") {
-            return Ok(rows);
-        }
-        let start = words.as_number(word)?;
-        let step = words.number()?;
-        rows.push(TickRow { start, step })?;
+    while let Some(row) = tick_row(words)? {
+        rows.push(row)?;
     }
+    Ok(rows)
 }
 
 // [START STEP ..] end PRICE
+#[tactic(auto, using(crate::proofs::Rows::table_is), unfolding(crate::specs::Grammar::tick_table))]
 fn tick_table(heap: Global, words: &mut Words) -> Result<Statement, ScriptFault>
     ensures { Says (table (tick_table (left words.old))) result }
 {
@@ -46,18 +58,14 @@ fn tick_table(heap: Global, words: &mut Words) -> Result<Statement, ScriptFault>
 }
 
 // even FIRST STEP LAST, table with its rows, or decade
+#[tactic(auto, unfolding(crate::specs::Grammar::grid_of, crate::specs::Grammar::is))]
 pub fn grid(heap: Global, words: &mut Words) -> Result<Statement, ScriptFault>
     ensures { Says (grid_of (word_here (left words.old))) result }
 {
-    let word = words.word()?;
-    if is(word, b"even") {
-        return even(words);
+    match words.word()? {
+        b"even" => even(words),
+        b"table" => tick_table(heap, words),
+        b"decade" => words.finish(Statement::GridDecade),
+        _ => Err(ScriptFault::UnexpectedWord(words.place)),
     }
-    if is(word, b"table") {
-        return tick_table(heap, words);
-    }
-    if is(word, b"decade") {
-        return words.finish(Statement::GridDecade);
-    }
-    Err(ScriptFault::UnexpectedWord(words.place))
 }

@@ -2,6 +2,7 @@ ghost use Rattle.std.specs.Prelude.{◌≡◌};
 ghost use Rattle.script.specs.Numbers.{number_of};
 
 // The number that a word says, if it says one.
+#[tactic(auto, using(crate::proofs::Digits::reading))]
 pub fn number_of(word: &[u8]) -> Option<u32>
     ensures { result ≡ number_of word.now }
 {
@@ -13,11 +14,7 @@ pub fn number_of(word: &[u8]) -> Option<u32>
         if !b.is_ascii_digit() {
             return None;
         }
-        let next = u64::from(n) * 10 + u64::from(*b - b'0');
-        if next > u64::from(u32::MAX) {
-            return None;
-        }
-        n = next as u32;
+        n = n.checked_mul(10)?.checked_add(u32::from(*b - b'0'))?;
     }
     Some(n)
 }

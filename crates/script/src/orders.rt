@@ -1,30 +1,30 @@
 // Orders, and the statements that hold one price.
-ghost use Rattle.std.specs.Prelude.{◌≡◌, Ok, Err, MatchResult};
+ghost use Rattle.std.specs.Prelude.{◌≡◌, ℕ, ◌^◌, ◌<◌, Ok, Err, MatchResult};
 ghost use Rattle.script.specs.Grammar.{order_price, order, one_price};
 ghost use Rattle.script.specs.Words.{left};
-ghost use Rattle.script.specs.declared.statement.Statement.TheVariants.{Static, Last};
+ghost use Rattle.script.specs.declared.statement.Statement.{Statement};
 
-use crate::cursor::is;
 use crate::words::Words;
 use crate::{OrderPrice, ScriptFault, Statement};
 use rules::Side;
 
 // at LIMIT, or market
+#[tactic(auto, unfolding(crate::specs::Grammar::order_price, crate::specs::Grammar::is))]
 fn order_price(words: &mut Words) -> Result<OrderPrice, ScriptFault>
     ensures { MatchResult result (λ p. order_price (left words.old) ≡ Ok (p, left words.new)) (λ f. order_price (left words.old) ≡ Err f) }
 {
-    let word = words.word()?;
-    if is(word, b"at") {
-        let limit = words.number()?;
-        return Ok(OrderPrice::Limit(limit));
+    match words.word()? {
+        b"at" => {
+            let limit = words.number()?;
+            Ok(OrderPrice::Limit(limit))
+        }
+        b"market" => Ok(OrderPrice::Market),
+        _ => Err(ScriptFault::UnexpectedWord(words.place)),
     }
-    if is(word, b"market") {
-        return Ok(OrderPrice::Market);
-    }
-    Err(ScriptFault::UnexpectedWord(words.place))
 }
 
 // QUANTITY at LIMIT, or QUANTITY market
+#[tactic(auto, unfolding(crate::specs::Grammar::order))]
 pub fn order(words: &mut Words, side: Side) -> Result<Statement, ScriptFault>
     ensures { result ≡ order side (left words.old) }
 {
@@ -37,18 +37,15 @@ pub fn order(words: &mut Words, side: Side) -> Result<Statement, ScriptFault>
     })
 }
 
-// PRICE, the static price
-pub fn static_price(words: &mut Words) -> Result<Statement, ScriptFault>
-    ensures { result ≡ one_price Static (left words.old) }
+// PRICE, of which the statement is made
+#[tactic(auto, unfolding(crate::specs::Grammar::one_price))]
+pub fn one_price<F: FnOnce(u32) -> Statement>(
+    words: &mut Words,
+    says: F,
+) -> Result<Statement, ScriptFault>
+    requires { F.IsAlwaysCallable says }
+    ensures { (f : ℕ → Statement) → ((p : ℕ) (s : Statement) → p < 2 ^ 32 → F.post says p s → s ≡ f p) → result ≡ one_price f (left words.old) }
 {
     let price = words.number()?;
-    words.finish(Statement::Static(price))
-}
-
-// PRICE, the last price
-pub fn last_price(words: &mut Words) -> Result<Statement, ScriptFault>
-    ensures { result ≡ one_price Last (left words.old) }
-{
-    let price = words.number()?;
-    words.finish(Statement::Last(price))
+    words.finish(says(price))
 }

@@ -1,45 +1,42 @@
 // Reads a line.
-ghost use Rattle.script.specs.Grammar.{Says, statement_as, statement_of};
+ghost use Rattle.std.specs.Prelude.{◌≡◌};
+ghost use Rattle.script.specs.Grammar.{Says, price_or_order, statement_as, statement_of};
 ghost use Rattle.script.specs.Words.{left, words_of};
 
 use crate::collars::collar;
-use crate::cursor::{is, is_comment};
 use crate::grids::grid;
-use crate::orders::{last_price, order, static_price};
+use crate::orders::{one_price, order};
 use crate::words::Words;
 use crate::{ScriptFault, Statement};
 use rules::Side;
 use std::alloc::Global;
 
+// An order or an opening, of which the first word is given.
+#[tactic(auto, unfolding(crate::specs::Grammar::is, crate::specs::Grammar::price_or_order))]
+fn price_or_order(words: &mut Words, word: &[u8]) -> Result<Statement, ScriptFault>
+    ensures { Says (price_or_order word.now (left words.old)) result }
+{
+    match word {
+        b"static" => one_price(words, Statement::Static),
+        b"last" => one_price(words, Statement::Last),
+        b"buy" => order(words, Side::Buy),
+        b"sell" => order(words, Side::Sell),
+        b"open" => words.finish(Statement::Open),
+        _ => Err(ScriptFault::UnknownWord(words.place)),
+    }
+}
+
 // The statement that begins with a word.
+#[tactic(auto, unfolding(crate::specs::Grammar::is, crate::specs::Grammar::statement_as))]
 fn statement_from(heap: Global, words: &mut Words, word: &[u8]) -> Result<Statement, ScriptFault>
     ensures { Says (statement_as word.now (left words.old)) result }
 {
-    if is_comment(word) {
-        return Ok(Statement::Blank);
+    match word {
+        [b'#', ..] => Ok(Statement::Blank),
+        b"grid" => grid(heap, words),
+        b"collar" => collar(words),
+        _ => price_or_order(words, word),
     }
-    if is(word, b"grid") {
-        return grid(heap, words);
-    }
-    if is(word, b"collar") {
-        return collar(words);
-    }
-    if is(word, b"static") {
-        return static_price(words);
-    }
-    if is(word, b"last") {
-        return last_price(words);
-    }
-    if is(word, b"buy") {
-        return order(words, Side::Buy);
-    }
-    if is(word, b"sell") {
-        return order(words, Side::Sell);
-    }
-    if is(word, b"open") {
-        return words.finish(Statement::Open);
-    }
-    Err(ScriptFault::UnknownWord(words.place))
 }
 
 // What a line says. Only a tick table takes memory.
