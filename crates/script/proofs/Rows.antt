@@ -1,13 +1,11 @@
 -- The rows of a tick table, one turn at a time.
-use Rattle.std.proofs.Common.{◌≡◌, ℕ, ◌+◌, ◌<◌, true, false, cond, ◌⊎◌, List, [], ◌∷◌, ◌++◌, length, Some, None, Ok, Err, vec_items, codes, Option, Result, Vec, sym, refl, ap, ◌∙◌, inl, inr, arith}
+use Rattle.std.proofs.Common.{◌≡◌, ℕ, ◌<◌, List, [], ◌∷◌, ◌++◌, length, Some, None, Ok, vec_items, Option, Result, Vec, refl, arith}
 use Rattle.std.specs.declared.alloc.Global.{Global}
 use Rattle.ticks.specs.declared.row.TickRow.{TickRow}
 use Rattle.script.specs.declared.statement.ScriptFault.{ScriptFault}
-use Rattle.script.specs.declared.statement.ScriptFault.TheVariants.{NoMemory}
 use Rattle.script.specs.declared.statement.Statement.{Statement}
 use Rattle.script.specs.declared.statement.Statement.TheVariants.{GridTable}
-use Rattle.script.specs.Grammar.{Part, leaving, and_then, is, word_here, number_at, number_here, end_here, row, row_here, rows_after, rows_here, tick_table, table, TableIs, Says}
-use Rattle.script.specs.Numbers.{number_of}
+use Rattle.script.specs.Grammar.{Part, and_then, word_here, number_here, end_here, row_here, rows_after, rows_here, tick_table, TableIs}
 use Rattle.script.specs.Words.{Left}
 
 -- what a row makes of the rows before it

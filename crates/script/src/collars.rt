@@ -1,6 +1,6 @@
 // The collar statements.
-ghost use Rattle.std.specs.Prelude.{◌≡◌, Ok, Err, MatchResult};
-ghost use Rattle.script.specs.Grammar.{plain_collar, around_static, collar};
+ghost use Rattle.std.specs.Prelude.{◌≡◌};
+ghost use Rattle.script.specs.Grammar.{leaving, plain_collar, around_static, collar};
 ghost use Rattle.script.specs.Words.{left};
 
 use crate::words::Words;
@@ -9,7 +9,7 @@ use crate::{CollarWords, PlainCollar, ScriptFault, Statement};
 // none, band LOW HIGH or last K, of which the first word is given
 #[tactic(auto, unfolding(crate::specs::Grammar::plain_collar, crate::specs::Grammar::is))]
 fn plain_collar(words: &mut Words, word: &[u8]) -> Result<PlainCollar, ScriptFault>
-    ensures { MatchResult result (λ c. plain_collar word.now (left words.old) ≡ Ok (c, left words.new)) (λ f. plain_collar word.now (left words.old) ≡ Err f) }
+    ensures { plain_collar word.now (left words.old) ≡ leaving (left words.new) result }
 {
     match word {
         b"none" => Ok(PlainCollar::Unlimited),

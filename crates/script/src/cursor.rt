@@ -1,7 +1,7 @@
 // Goes through the words of a line.
 ghost use Rattle.std.specs.Prelude.{◌≡◌, not, Ok, Err, MatchResult};
 ghost use Rattle.std.specs.List.{prefix_len};
-ghost use Rattle.script.specs.Grammar.{word_here, number_at, number_here, end_here};
+ghost use Rattle.script.specs.Grammar.{leaving, word_here, number_at, number_here, end_here};
 ghost use Rattle.script.specs.Numbers.{number_of};
 ghost use Rattle.script.specs.Words.{is_gap, words_of, left, Next};
 
@@ -75,7 +75,7 @@ impl<'a> Words<'a> {
     // The next word, which has to be a number.
     #[tactic(auto, unfolding(crate::specs::Grammar::number_here))]
     pub fn number(&mut self) -> Result<u32, ScriptFault>
-        ensures { MatchResult result (λ x. number_here (left self.old) ≡ Ok (x, left self.new)) (λ f. number_here (left self.old) ≡ Err f) }
+        ensures { number_here (left self.old) ≡ leaving (left self.new) result }
     {
         let word = self.word()?;
         self.as_number(word)

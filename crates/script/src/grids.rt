@@ -1,6 +1,6 @@
 // The grid statements.
 ghost use Rattle.std.specs.Prelude.{◌≡◌, ◌⊎◌, [], Ok, Err, MatchResult};
-ghost use Rattle.script.specs.Grammar.{even, grid_of, row_here, rows_here, Says, table, tick_table, word_here};
+ghost use Rattle.script.specs.Grammar.{leaving, even, grid_of, row_here, rows_here, Says, table, tick_table, word_here};
 ghost use Rattle.script.specs.Words.{left};
 ghost use Rattle.script.specs.declared.statement.ScriptFault.TheVariants.{NoMemory};
 
@@ -23,7 +23,7 @@ fn even(words: &mut Words) -> Result<Statement, ScriptFault>
 // START STEP, or the word end, after which there are no more rows
 #[tactic(auto, unfolding(crate::specs::Grammar::is, crate::specs::Grammar::row_here))]
 fn tick_row(words: &mut Words) -> Result<Option<TickRow>, ScriptFault>
-    ensures { MatchResult result (λ r. row_here (left words.old) ≡ Ok (r, left words.new)) (λ f. row_here (left words.old) ≡ Err f) }
+    ensures { row_here (left words.old) ≡ leaving (left words.new) result }
 {
     match words.word()? {
         b"end" => Ok(None),

@@ -1,6 +1,6 @@
 // Orders, and the statements that hold one price.
-ghost use Rattle.std.specs.Prelude.{◌≡◌, ℕ, ◌^◌, ◌<◌, Ok, Err, MatchResult};
-ghost use Rattle.script.specs.Grammar.{order_price, order, one_price};
+ghost use Rattle.std.specs.Prelude.{◌≡◌, ℕ, ◌^◌, ◌<◌};
+ghost use Rattle.script.specs.Grammar.{leaving, order_price, order, one_price};
 ghost use Rattle.script.specs.Words.{left};
 ghost use Rattle.script.specs.declared.statement.Statement.{Statement};
 
@@ -11,7 +11,7 @@ use rules::Side;
 // at LIMIT, or market
 #[tactic(auto, unfolding(crate::specs::Grammar::order_price, crate::specs::Grammar::is))]
 fn order_price(words: &mut Words) -> Result<OrderPrice, ScriptFault>
-    ensures { MatchResult result (λ p. order_price (left words.old) ≡ Ok (p, left words.new)) (λ f. order_price (left words.old) ≡ Err f) }
+    ensures { order_price (left words.old) ≡ leaving (left words.new) result }
 {
     match words.word()? {
         b"at" => {

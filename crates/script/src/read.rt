@@ -11,7 +11,7 @@ use crate::{ScriptFault, Statement};
 use rules::Side;
 use std::alloc::Global;
 
-// An order or an opening, of which the first word is given.
+// A price, an order or an opening, of which the first word is given.
 #[tactic(auto, unfolding(crate::specs::Grammar::is, crate::specs::Grammar::price_or_order))]
 fn price_or_order(words: &mut Words, word: &[u8]) -> Result<Statement, ScriptFault>
     ensures { Says (price_or_order word.now (left words.old)) result }
