@@ -1,5 +1,5 @@
 // A call book: the grid, the collar and the two reference prices that were named, and the orders that stand in it.
-ghost use Rattle.std.specs.Prelude.{◌≡◌, Some, None, MatchResult};
+ghost use Rattle.std.specs.Prelude.{◌≡◌, Ok, Err, MatchBool, MatchResult};
 ghost use Rattle.grid.specs.Prices.{is_price};
 ghost use Rattle.callbook.specs.Desks.{desk_of, Fresh, no_orders, with_grid, with_collar, with_static, with_last, Guarded};
 ghost use Rattle.callbook.specs.Lines.{with_order, OrderOn, AuctionHeld};
@@ -10,7 +10,7 @@ use crate::order_check::check_order;
 use crate::orders::validity_of;
 use collar::{AnyCollar, FixedBand};
 use grid::is_price;
-use pricing::{TooManyOrders, opening_price};
+use pricing::opening_price;
 use rules::{Opening, Order, Side};
 use script::OrderPrice;
 use std::alloc::Global;
@@ -18,6 +18,13 @@ use ticks::AnyGrid;
 
 // How many orders a call book holds.
 const CAPACITY: usize = 4_096;
+
+// The number, which has to be a price.
+fn checked_price(price: u32) -> Result<u32, BookFault>
+    ensures { MatchBool (is_price price) (result ≡ Ok price) (result ≡ Err NotPrice) }
+{
+    is_price(price).then_some(price).ok_or(BookFault::NotPrice)
+}
 
 #[derive(Drop)]
 pub struct CallBook {
@@ -66,10 +73,7 @@ impl CallBook {
     pub(crate) fn set_static_price(&mut self, price: u32) -> Result<(), BookFault>
         ensures { Guarded (is_price price) NotPrice (desk_of self.old) (with_static price (desk_of self.old)) result (desk_of self.new) }
     {
-        if !is_price(price) {
-            return Err(BookFault::NotPrice);
-        }
-        self.static_price = Some(price);
+        self.static_price = Some(checked_price(price)?);
         Ok(())
     }
 
@@ -77,10 +81,7 @@ impl CallBook {
     pub(crate) fn set_last_price(&mut self, price: u32) -> Result<(), BookFault>
         ensures { Guarded (is_price price) NotPrice (desk_of self.old) (with_last price (desk_of self.old)) result (desk_of self.new) }
     {
-        if !is_price(price) {
-            return Err(BookFault::NotPrice);
-        }
-        self.last = Some(price);
+        self.last = Some(checked_price(price)?);
         Ok(())
     }
 
@@ -104,9 +105,7 @@ impl CallBook {
     ) -> Result<(), BookFault>
         ensures { OrderOn self.old.grid (desk_of self.old) side quantity price result (desk_of self.new) }
     {
-        let Some(grid) = self.grid else {
-            return Err(BookFault::NoGrid);
-        };
+        let grid = self.grid.ok_or(BookFault::NoGrid)?;
         let limit = check_order(&grid, quantity, price)?;
         let held = self.buys.len() + self.sells.len();
         if held >= CAPACITY {
@@ -128,29 +127,19 @@ impl CallBook {
     pub(crate) fn open(&mut self) -> Result<Opening, BookFault>
         ensures { AuctionHeld (desk_of self.old) result (desk_of self.new) }
     {
-        let Some(grid) = self.grid else {
-            return Err(BookFault::NoGrid);
-        };
-        let Some(static_price) = self.static_price else {
-            return Err(BookFault::NoStaticPrice);
-        };
-        let Some(last) = self.last else {
-            return Err(BookFault::NoLastPrice);
-        };
-        match opening_price(
+        let grid = self.grid.ok_or(BookFault::NoGrid)?;
+        let static_price = self.static_price.ok_or(BookFault::NoStaticPrice)?;
+        let last = self.last.ok_or(BookFault::NoLastPrice)?;
+        let outcome = opening_price(
             &grid,
             &self.collar,
             static_price,
             last,
             &self.buys,
             &self.sells,
-        ) {
-            Err(TooManyOrders) => Err(BookFault::BookFull),
-            Ok(outcome) => {
-                self.buys.clear();
-                self.sells.clear();
-                Ok(outcome)
-            }
-        }
+        )?;
+        self.buys.clear();
+        self.sells.clear();
+        Ok(outcome)
     }
 }

@@ -1,11 +1,12 @@
 // Why a line of a call book is refused.
 ghost use Rattle.std.specs.Prelude.{◌≡◌};
 ghost use Rattle.callbook.specs.Numbers.{refusal_of};
-ghost use Rattle.callbook.specs.declared.fault.BookFault.TheVariants.{EvenGridUnfit, TickTableUnfit, CollarUnfit, OrderUnfit, NoMemory};
+ghost use Rattle.callbook.specs.declared.fault.BookFault.TheVariants.{EvenGridUnfit, TickTableUnfit, CollarUnfit, OrderUnfit, BookFull, NoMemory};
 
 use crate::OrderFault;
 use collar::CollarFault;
 use grid::EvenFault;
+use pricing::TooManyOrders;
 use std::alloc::AllocFailed;
 use ticks::TableFault;
 
@@ -38,16 +39,16 @@ impl BookFault {
             BookFault::OrderUnfit(OrderFault::QuantityOutOfRange) => Some(2),
             BookFault::OrderUnfit(OrderFault::NoLimit) => Some(3),
             BookFault::OrderUnfit(OrderFault::LimitUnlawful { .. }) => Some(4),
-            BookFault::EvenGridUnfit(_) => Some(5),
-            BookFault::TickTableUnfit(_) => Some(5),
-            BookFault::CollarUnfit(_) => Some(5),
-            BookFault::NotPrice => Some(5),
+            BookFault::EvenGridUnfit(_)
+            | BookFault::TickTableUnfit(_)
+            | BookFault::CollarUnfit(_)
+            | BookFault::NotPrice => Some(5),
             BookFault::BookFull => Some(25),
-            BookFault::NoGrid => None,
-            BookFault::NoStaticPrice => None,
-            BookFault::NoLastPrice => None,
-            BookFault::OrdersStand => None,
-            BookFault::NoMemory => None,
+            BookFault::NoGrid
+            | BookFault::NoStaticPrice
+            | BookFault::NoLastPrice
+            | BookFault::OrdersStand
+            | BookFault::NoMemory => None,
         }
     }
 }
@@ -81,6 +82,14 @@ impl From<OrderFault> for BookFault {
 
     fn from(fault: OrderFault) -> BookFault {
         BookFault::OrderUnfit(fault)
+    }
+}
+
+impl From<TooManyOrders> for BookFault {
+    ghost from_gives = { λ _ f. f ≡ BookFull };
+
+    fn from(_: TooManyOrders) -> BookFault {
+        BookFault::BookFull
     }
 }
 

@@ -30,7 +30,7 @@ pub(crate) fn check_order<G: PriceGrid>(
 ) -> Result<u32, OrderFault>
     ensures { OrderChecked (G.lawful grid.now) quantity price result }
 {
-    if quantity < 1 || quantity > MAX_QUANTITY {
+    if !(1..=MAX_QUANTITY).contains(&quantity) {
         return Err(OrderFault::QuantityOutOfRange);
     }
     let OrderPrice::Limit(limit) = price else {
@@ -39,13 +39,12 @@ pub(crate) fn check_order<G: PriceGrid>(
     if limit == 0 {
         return Err(OrderFault::NoLimit);
     }
-    match grid.check(limit) {
-        Ok(()) => Ok(limit),
-        Err(fault) => Err(OrderFault::LimitUnlawful {
+    grid.check(limit)
+        .map_err(|fault| OrderFault::LimitUnlawful {
             limit,
             fault,
             below: grid.below(limit),
             above: grid.above(limit),
-        }),
-    }
+        })?;
+    Ok(limit)
 }
