@@ -137,7 +137,8 @@ impl CallBook {
             last,
             &self.buys,
             &self.sells,
-        )?;
+        )
+        .map_err(|_| BookFault::BookFull)?;
         self.buys.clear();
         self.sells.clear();
         Ok(outcome)

@@ -1,12 +1,11 @@
 // Why a line of a call book is refused.
 ghost use Rattle.std.specs.Prelude.{◌≡◌};
 ghost use Rattle.callbook.specs.Numbers.{refusal_of};
-ghost use Rattle.callbook.specs.declared.fault.BookFault.TheVariants.{EvenGridUnfit, TickTableUnfit, CollarUnfit, OrderUnfit, BookFull, NoMemory};
+ghost use Rattle.callbook.specs.declared.fault.BookFault.TheVariants.{EvenGridUnfit, TickTableUnfit, CollarUnfit, OrderUnfit, NoMemory};
 
 use crate::OrderFault;
 use collar::CollarFault;
 use grid::EvenFault;
-use pricing::TooManyOrders;
 use std::alloc::AllocFailed;
 use ticks::TableFault;
 
@@ -82,14 +81,6 @@ impl From<OrderFault> for BookFault {
 
     fn from(fault: OrderFault) -> BookFault {
         BookFault::OrderUnfit(fault)
-    }
-}
-
-impl From<TooManyOrders> for BookFault {
-    ghost from_gives = { λ _ f. f ≡ BookFull };
-
-    fn from(_: TooManyOrders) -> BookFault {
-        BookFault::BookFull
     }
 }
 

@@ -1,10 +1,6 @@
 // What a line does to a call book.
-ghost use Rattle.std.specs.Prelude.{length, None};
-ghost use Rattle.grid.specs.Steps.{on_steps};
-ghost use Rattle.ticks.specs.Rows.{on_rows};
-ghost use Rattle.grid.specs.Decades.{on_decades};
 ghost use Rattle.callbook.specs.Desks.{desk_of};
-ghost use Rattle.callbook.specs.Lines.{GridNamed, CollarNamed, words_fault, words_allow, even_refusal, table_refusal, Applied};
+ghost use Rattle.callbook.specs.Lines.{Applied};
 
 use crate::collars::collar_of;
 use crate::{BookFault, CallBook};
