@@ -1,12 +1,11 @@
 -- What a call book holds, and what it holds after a line.
-use Rattle.std.specs.Prelude.{◌≡◌, ℕ, Bool, ◌&&◌, List, [], length, Some, None, Ok, Err, vec_items, MatchBool, Option, Result, ◌==◌}
+use Rattle.std.specs.Prelude.{◌≡◌, ℕ, Bool, ◌&&◌, List, [], length, Some, None, Ok, Err, MatchBool, Option, Result, ◌==◌}
 use Rattle.grid.specs.Prices.{is_price}
 use Rattle.ticks.specs.declared.any.AnyGrid.{AnyGrid}
 use Rattle.collar.specs.Any.{allows_any}
 use Rattle.collar.specs.declared.any.AnyCollar.{AnyCollar}
 use Rattle.rules.specs.declared.order.Order.{Order}
 use Rattle.callbook.specs.declared.fault.BookFault.{BookFault}
-use Rattle.callbook.specs.declared.book.CallBook.{CallBook}
 
 -- what was named so far, and the orders on each side
 pub record Desk : Type 0 where
@@ -16,9 +15,6 @@ pub record Desk : Type 0 where
   pub last : Option ℕ
   pub buys : List Order
   pub sells : List Order
-
-abbrev pub desk_of : CallBook → Desk
-desk_of b = record { grid = b.grid; collar = b.collar; static_price = b.static_price; last = b.last; buys = vec_items b.buys; sells = vec_items b.sells }
 
 -- nothing is named, no order stands, and every price is allowed
 pub record Fresh (d : Desk) : Type 0 where

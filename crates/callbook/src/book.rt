@@ -1,7 +1,7 @@
 // A call book: the grid, the collar and the two reference prices that were named, and the orders that stand in it.
 ghost use Rattle.std.specs.Prelude.{◌≡◌, Ok, Err, MatchBool, MatchResult};
 ghost use Rattle.grid.specs.Prices.{is_price};
-ghost use Rattle.callbook.specs.Desks.{desk_of, Fresh, no_orders, with_grid, with_collar, with_static, with_last, Guarded};
+ghost use Rattle.callbook.specs.Desks.{Fresh, no_orders, with_grid, with_collar, with_static, with_last, Guarded};
 ghost use Rattle.callbook.specs.Lines.{with_order, OrderOn, AuctionHeld};
 ghost use Rattle.callbook.specs.declared.fault.BookFault.TheVariants.{OrdersStand, NotPrice, NoMemory};
 
@@ -14,6 +14,7 @@ use pricing::opening_price;
 use rules::{Opening, Order, Side};
 use script::OrderPrice;
 use std::alloc::Global;
+use std::marker::Model;
 use ticks::AnyGrid;
 
 // How many orders a call book holds.
@@ -36,10 +37,20 @@ pub struct CallBook {
     sells: Vec<Order>,
 }
 
+// A book is seen as what it holds, whatever room its lists have.
+impl Model for CallBook {
+    ghost use Rattle.std.specs.Prelude.{vec_items};
+    ghost use Rattle.callbook.specs.Desks.{Desk};
+
+    ghost Value = { Desk };
+
+    ghost view = { λ b. record { grid = b.grid; collar = b.collar; static_price = b.static_price; last = b.last; buys = vec_items b.buys; sells = vec_items b.sells } };
+}
+
 impl CallBook {
     // A book in which nothing is named and no order stands; every price is allowed.
     pub fn new(heap: Global) -> CallBook
-        ensures { Fresh (desk_of result) }
+        ensures { Fresh result }
     {
         CallBook {
             grid: None,
@@ -53,7 +64,7 @@ impl CallBook {
 
     // Names the grid, unless orders stand in the book.
     pub(crate) fn set_grid(&mut self, grid: AnyGrid) -> Result<(), BookFault>
-        ensures { Guarded (no_orders (desk_of self.old)) OrdersStand (desk_of self.old) (with_grid grid (desk_of self.old)) result (desk_of self.new) }
+        ensures { Guarded (no_orders self.old) OrdersStand self.old (with_grid grid self.old) result self.new }
     {
         if !self.buys.is_empty() || !self.sells.is_empty() {
             return Err(BookFault::OrdersStand);
@@ -64,14 +75,14 @@ impl CallBook {
 
     // Names the collar.
     pub(crate) fn set_collar(&mut self, collar: AnyCollar)
-        ensures { desk_of self.new ≡ with_collar collar (desk_of self.old) }
+        ensures { self.new ≡ with_collar collar self.old }
     {
         self.collar = collar;
     }
 
     // Names the static price.
     pub(crate) fn set_static_price(&mut self, price: u32) -> Result<(), BookFault>
-        ensures { Guarded (is_price price) NotPrice (desk_of self.old) (with_static price (desk_of self.old)) result (desk_of self.new) }
+        ensures { Guarded (is_price price) NotPrice self.old (with_static price self.old) result self.new }
     {
         self.static_price = Some(checked_price(price)?);
         Ok(())
@@ -79,7 +90,7 @@ impl CallBook {
 
     // Names the last price.
     pub(crate) fn set_last_price(&mut self, price: u32) -> Result<(), BookFault>
-        ensures { Guarded (is_price price) NotPrice (desk_of self.old) (with_last price (desk_of self.old)) result (desk_of self.new) }
+        ensures { Guarded (is_price price) NotPrice self.old (with_last price self.old) result self.new }
     {
         self.last = Some(checked_price(price)?);
         Ok(())
@@ -87,7 +98,7 @@ impl CallBook {
 
     // Lets an order stand behind those of its side.
     fn push(&mut self, side: Side, order: Order) -> Result<(), BookFault>
-        ensures { MatchResult result (λ _. desk_of self.new ≡ with_order side order (desk_of self.old)) (λ f. (f ≡ NoMemory) × (desk_of self.new ≡ desk_of self.old)) }
+        ensures { MatchResult result (λ _. self.new ≡ with_order side order self.old) (λ f. (f ≡ NoMemory) × (self.new ≡ self.old)) }
     {
         match side {
             Side::Buy => self.buys.push(order)?,
@@ -103,7 +114,7 @@ impl CallBook {
         quantity: u32,
         price: OrderPrice,
     ) -> Result<(), BookFault>
-        ensures { OrderOn self.old.grid (desk_of self.old) side quantity price result (desk_of self.new) }
+        ensures { OrderOn self.old.grid self.old side quantity price result self.new }
     {
         let grid = self.grid.ok_or(BookFault::NoGrid)?;
         let limit = check_order(&grid, quantity, price)?;
@@ -125,7 +136,7 @@ impl CallBook {
 
     // Holds the auction, and takes all orders out of the book.
     pub(crate) fn open(&mut self) -> Result<Opening, BookFault>
-        ensures { AuctionHeld (desk_of self.old) result (desk_of self.new) }
+        ensures { AuctionHeld self.old result self.new }
     {
         let grid = self.grid.ok_or(BookFault::NoGrid)?;
         let static_price = self.static_price.ok_or(BookFault::NoStaticPrice)?;

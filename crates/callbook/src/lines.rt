@@ -1,5 +1,4 @@
 // What a line does to a call book.
-ghost use Rattle.callbook.specs.Desks.{desk_of};
 ghost use Rattle.callbook.specs.Lines.{Applied};
 
 use crate::collars::collar_of;
@@ -12,7 +11,7 @@ use ticks::{AnyGrid, TickTable};
 // Does what a statement says: the outcome of an auction, if it holds one; or why the statement is refused, and then the book
 // is as it was.
 pub(crate) fn apply(book: &mut CallBook, statement: Statement) -> Result<Option<Opening>, BookFault>
-    ensures { Applied (desk_of book.old) statement result (desk_of book.new) }
+    ensures { Applied book.old statement result book.new }
 {
     match statement {
         Statement::Blank => {}

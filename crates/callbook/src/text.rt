@@ -1,6 +1,5 @@
 // What a line of text does to a call book.
 ghost use Rattle.std.specs.Prelude.{◌≡◌};
-ghost use Rattle.callbook.specs.Desks.{desk_of};
 ghost use Rattle.callbook.specs.Texts.{line_refusal, Run};
 ghost use Rattle.callbook.specs.declared.text.LineFault.TheVariants.{Text, Book};
 
@@ -52,7 +51,7 @@ pub fn run_line(
     book: &mut CallBook,
     line: &[u8],
 ) -> Result<Option<Opening>, LineFault>
-    ensures { Run (desk_of book.old) line.now result (desk_of book.new) }
+    ensures { Run book.old line.now result book.new }
 {
     let statement = read_statement(heap, line)?;
     Ok(apply(book, statement)?)
