@@ -1,7 +1,6 @@
 -- The words of a line: its longest runs of bytes other than space, tab and carriage return.
 use Rattle.std.specs.Prelude.{◌≡◌, ℕ, ◌+◌, Bool, true, cond, ◌||◌, List, [], ◌∷◌, Some, None, Option, ◌==◌}
 use Rattle.std.specs.Borrow.{Bor}
-use Rattle.script.specs.declared.words.Words.{Words}
 
 -- a byte that parts words
 unfoldable pub is_gap : ℕ → Bool
@@ -25,9 +24,6 @@ words_of (b ∷ bs) = cond (is_gap b) (words_of bs) (cond (at_gap bs) ((b ∷ []
 pub record Left : Type 0 where
   pub read : ℕ
   pub words : List (List ℕ)
-
-abbrev pub left : Words → Left
-left w = record { read = w.place; words = words_of w.rest.now }
 
 -- the next word r was read, if there was one, and m is left
 abbrev pub Next : Left → Option (Bor (List ℕ)) → Left → Type 0

@@ -1,7 +1,6 @@
 // The collar statements.
 ghost use Rattle.std.specs.Prelude.{◌≡◌};
 ghost use Rattle.script.specs.Grammar.{leaving, plain_collar, around_static, collar};
-ghost use Rattle.script.specs.Words.{left};
 
 use crate::words::Words;
 use crate::{CollarWords, PlainCollar, ScriptFault, Statement};
@@ -9,7 +8,7 @@ use crate::{CollarWords, PlainCollar, ScriptFault, Statement};
 // none, band LOW HIGH or last K, of which the first word is given
 #[tactic(auto, unfolding(crate::specs::Grammar::plain_collar, crate::specs::Grammar::is))]
 fn plain_collar(words: &mut Words, word: &[u8]) -> Result<PlainCollar, ScriptFault>
-    ensures { plain_collar word.now (left words.old) ≡ leaving (left words.new) result }
+    ensures { plain_collar word.now words.old ≡ leaving words.new result }
 {
     match word {
         b"none" => Ok(PlainCollar::Unlimited),
@@ -29,7 +28,7 @@ fn plain_collar(words: &mut Words, word: &[u8]) -> Result<PlainCollar, ScriptFau
 // K over another collar
 #[tactic(auto, unfolding(crate::specs::Grammar::around_static, crate::specs::Grammar::is))]
 fn around_static(words: &mut Words) -> Result<Statement, ScriptFault>
-    ensures { result ≡ around_static (left words.old) }
+    ensures { result ≡ around_static words.old }
 {
     let k = words.number()?;
     let b"over" = words.word()? else {
@@ -43,7 +42,7 @@ fn around_static(words: &mut Words) -> Result<Statement, ScriptFault>
 // none, band LOW HIGH, last K or static K over another
 #[tactic(auto, unfolding(crate::specs::Grammar::collar, crate::specs::Grammar::is))]
 pub fn collar(words: &mut Words) -> Result<Statement, ScriptFault>
-    ensures { result ≡ collar (left words.old) }
+    ensures { result ≡ collar words.old }
 {
     match words.word()? {
         b"static" => around_static(words),

@@ -3,7 +3,7 @@ ghost use Rattle.std.specs.Prelude.{◌≡◌, not, Ok, Err, MatchResult};
 ghost use Rattle.std.specs.List.{prefix_len};
 ghost use Rattle.script.specs.Grammar.{leaving, word_here, number_at, number_here, end_here};
 ghost use Rattle.script.specs.Numbers.{number_of};
-ghost use Rattle.script.specs.Words.{is_gap, words_of, left, Next};
+ghost use Rattle.script.specs.Words.{is_gap, words_of, Next};
 
 use crate::numbers::number_of;
 use crate::words::Words;
@@ -33,7 +33,7 @@ fn word_len(line: &[u8]) -> usize
 impl<'a> Words<'a> {
     // The words of a line, none of them read.
     pub fn new(line: &'a [u8]) -> Self
-        ensures { left result ≡ record { read = 0; words = words_of line.now } }
+        ensures { result ≡ record { read = 0; words = words_of line.now } }
     {
         Words {
             rest: line,
@@ -44,7 +44,7 @@ impl<'a> Words<'a> {
     // The next word, if there is one.
     #[tactic(auto, using(crate::proofs::Cuts::cutting))]
     pub fn next(&mut self) -> Option<&'a [u8]>
-        ensures { Next (left self.old) result (left self.new) }
+        ensures { Next self.old result self.new }
     {
         let line = self.rest;
         let (_, trimmed) = line.split_at(gap_len(line));
@@ -60,14 +60,14 @@ impl<'a> Words<'a> {
     // The next word, which has to be there.
     #[tactic(auto, unfolding(crate::specs::Grammar::word_here))]
     pub fn word(&mut self) -> Result<&'a [u8], ScriptFault>
-        ensures { MatchResult result (λ w. word_here (left self.old) ≡ Ok (w.now, left self.new)) (λ f. word_here (left self.old) ≡ Err f) }
+        ensures { MatchResult result (λ w. word_here self.old ≡ Ok (w.now, self.new)) (λ f. word_here self.old ≡ Err f) }
     {
         self.next().ok_or(ScriptFault::MissingWord(self.place + 1))
     }
 
     // The word read last, which has to be a number.
     pub fn as_number(&self, word: &[u8]) -> Result<u32, ScriptFault>
-        ensures { result ≡ number_at (left self.now).read (number_of word.now) }
+        ensures { result ≡ number_at self.now.read (number_of word.now) }
     {
         number_of(word).ok_or(ScriptFault::ExpectedNumber(self.place))
     }
@@ -75,7 +75,7 @@ impl<'a> Words<'a> {
     // The next word, which has to be a number.
     #[tactic(auto, unfolding(crate::specs::Grammar::number_here))]
     pub fn number(&mut self) -> Result<u32, ScriptFault>
-        ensures { number_here (left self.old) ≡ leaving (left self.new) result }
+        ensures { number_here self.old ≡ leaving self.new result }
     {
         let word = self.word()?;
         self.as_number(word)
@@ -84,7 +84,7 @@ impl<'a> Words<'a> {
     // The statement, after which no words may be left.
     #[tactic(auto, unfolding(crate::specs::Grammar::end_here))]
     pub fn finish(&mut self, statement: Statement) -> Result<Statement, ScriptFault>
-        ensures { result ≡ end_here statement (left self.old) }
+        ensures { result ≡ end_here statement self.old }
     {
         match self.next() {
             Some(_) => Err(ScriptFault::ExtraWord(self.place)),

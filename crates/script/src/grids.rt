@@ -1,7 +1,6 @@
 // The grid statements.
 ghost use Rattle.std.specs.Prelude.{◌≡◌, ◌⊎◌, [], Ok, Err, MatchResult};
 ghost use Rattle.script.specs.Grammar.{leaving, even, grid_of, row_here, rows_here, Says, table, tick_table, word_here};
-ghost use Rattle.script.specs.Words.{left};
 ghost use Rattle.script.specs.declared.statement.ScriptFault.TheVariants.{NoMemory};
 
 use crate::words::Words;
@@ -12,7 +11,7 @@ use ticks::TickRow;
 // FIRST STEP LAST
 #[tactic(auto, unfolding(crate::specs::Grammar::even))]
 fn even(words: &mut Words) -> Result<Statement, ScriptFault>
-    ensures { result ≡ even (left words.old) }
+    ensures { result ≡ even words.old }
 {
     let first = words.number()?;
     let step = words.number()?;
@@ -23,7 +22,7 @@ fn even(words: &mut Words) -> Result<Statement, ScriptFault>
 // START STEP, or the word end, after which there are no more rows
 #[tactic(auto, unfolding(crate::specs::Grammar::is, crate::specs::Grammar::row_here))]
 fn tick_row(words: &mut Words) -> Result<Option<TickRow>, ScriptFault>
-    ensures { row_here (left words.old) ≡ leaving (left words.new) result }
+    ensures { row_here words.old ≡ leaving words.new result }
 {
     match words.word()? {
         b"end" => Ok(None),
@@ -38,7 +37,7 @@ fn tick_row(words: &mut Words) -> Result<Option<TickRow>, ScriptFault>
 // [START STEP ..] end
 #[tactic(auto, using(crate::proofs::Rows::turns, crate::proofs::Rows::row_less))]
 fn tick_rows(heap: Global, words: &mut Words) -> Result<Vec<TickRow>, ScriptFault>
-    ensures { MatchResult result (λ v. rows_here [] (left words.old) ≡ Ok (v.items, left words.new)) (λ f. (f ≡ NoMemory) ⊎ (rows_here [] (left words.old) ≡ Err f)) }
+    ensures { MatchResult result (λ v. rows_here [] words.old ≡ Ok (v.items, words.new)) (λ f. (f ≡ NoMemory) ⊎ (rows_here [] words.old ≡ Err f)) }
 {
     let mut rows = Vec::new(heap);
     while let Some(row) = tick_row(words)? {
@@ -50,7 +49,7 @@ fn tick_rows(heap: Global, words: &mut Words) -> Result<Vec<TickRow>, ScriptFaul
 // [START STEP ..] end PRICE
 #[tactic(auto, using(crate::proofs::Rows::table_is), unfolding(crate::specs::Grammar::tick_table))]
 fn tick_table(heap: Global, words: &mut Words) -> Result<Statement, ScriptFault>
-    ensures { Says (table (tick_table (left words.old))) result }
+    ensures { Says (table (tick_table words.old)) result }
 {
     let rows = tick_rows(heap, words)?;
     let end = words.number()?;
@@ -60,7 +59,7 @@ fn tick_table(heap: Global, words: &mut Words) -> Result<Statement, ScriptFault>
 // even FIRST STEP LAST, table with its rows, or decade
 #[tactic(auto, unfolding(crate::specs::Grammar::grid_of, crate::specs::Grammar::is))]
 pub fn grid(heap: Global, words: &mut Words) -> Result<Statement, ScriptFault>
-    ensures { Says (grid_of (word_here (left words.old))) result }
+    ensures { Says (grid_of (word_here words.old)) result }
 {
     match words.word()? {
         b"even" => even(words),

@@ -1,7 +1,6 @@
 // Orders, and the statements that hold one price.
 ghost use Rattle.std.specs.Prelude.{◌≡◌, ℕ, ◌^◌, ◌<◌};
 ghost use Rattle.script.specs.Grammar.{leaving, order_price, order, one_price};
-ghost use Rattle.script.specs.Words.{left};
 ghost use Rattle.script.specs.declared.statement.Statement.{Statement};
 
 use crate::words::Words;
@@ -11,7 +10,7 @@ use rules::Side;
 // at LIMIT, or market
 #[tactic(auto, unfolding(crate::specs::Grammar::order_price, crate::specs::Grammar::is))]
 fn order_price(words: &mut Words) -> Result<OrderPrice, ScriptFault>
-    ensures { order_price (left words.old) ≡ leaving (left words.new) result }
+    ensures { order_price words.old ≡ leaving words.new result }
 {
     match words.word()? {
         b"at" => {
@@ -26,7 +25,7 @@ fn order_price(words: &mut Words) -> Result<OrderPrice, ScriptFault>
 // QUANTITY at LIMIT, or QUANTITY market
 #[tactic(auto, unfolding(crate::specs::Grammar::order))]
 pub fn order(words: &mut Words, side: Side) -> Result<Statement, ScriptFault>
-    ensures { result ≡ order side (left words.old) }
+    ensures { result ≡ order side words.old }
 {
     let quantity = words.number()?;
     let price = order_price(words)?;
@@ -44,7 +43,7 @@ pub fn one_price<F: FnOnce(u32) -> Statement>(
     says: F,
 ) -> Result<Statement, ScriptFault>
     requires { F.IsAlwaysCallable says }
-    ensures { (f : ℕ → Statement) → ((p : ℕ) (s : Statement) → p < 2 ^ 32 → F.post says p s → s ≡ f p) → result ≡ one_price f (left words.old) }
+    ensures { (f : ℕ → Statement) → ((p : ℕ) (s : Statement) → p < 2 ^ 32 → F.post says p s → s ≡ f p) → result ≡ one_price f words.old }
 {
     let price = words.number()?;
     words.finish(says(price))

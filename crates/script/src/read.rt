@@ -1,7 +1,6 @@
 // Reads a line.
-ghost use Rattle.std.specs.Prelude.{◌≡◌};
 ghost use Rattle.script.specs.Grammar.{Says, price_or_order, statement_as, statement_of};
-ghost use Rattle.script.specs.Words.{left, words_of};
+ghost use Rattle.script.specs.Words.{words_of};
 
 use crate::collars::collar;
 use crate::grids::grid;
@@ -14,7 +13,7 @@ use std::alloc::Global;
 // A price, an order or an opening, of which the first word is given.
 #[tactic(auto, unfolding(crate::specs::Grammar::is, crate::specs::Grammar::price_or_order))]
 fn price_or_order(words: &mut Words, word: &[u8]) -> Result<Statement, ScriptFault>
-    ensures { Says (price_or_order word.now (left words.old)) result }
+    ensures { Says (price_or_order word.now words.old) result }
 {
     match word {
         b"static" => one_price(words, Statement::Static),
@@ -29,7 +28,7 @@ fn price_or_order(words: &mut Words, word: &[u8]) -> Result<Statement, ScriptFau
 // The statement that begins with a word.
 #[tactic(auto, unfolding(crate::specs::Grammar::is, crate::specs::Grammar::statement_as))]
 fn statement_from(heap: Global, words: &mut Words, word: &[u8]) -> Result<Statement, ScriptFault>
-    ensures { Says (statement_as word.now (left words.old)) result }
+    ensures { Says (statement_as word.now words.old) result }
 {
     match word {
         [b'#', ..] => Ok(Statement::Blank),
