@@ -68,4 +68,4 @@ module _ (l t : List ℕ) (n : ℕ) (e : n ≡ prefix_len is_gap l) (f : t ≡ d
   first h k g w u p q = sym skipped ∙ rw (p, q, g) (cut t (at_word h))
 
 -- what cutting off a word takes
-pub ruleset cutting = (prefix_len-le-length, none_here, long, first)
+pub ruleset cutting = (prefix_len-le-length, none_here, first)

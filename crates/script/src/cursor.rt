@@ -1,5 +1,6 @@
 // Goes through the words of a line.
-ghost use Rattle.std.specs.Prelude.{◌≡◌, not, Ok, Err, MatchResult};
+ghost use Rattle.std.specs.Prelude.{◌≡◌, not, length, Ok, Err, MatchResult};
+ghost use Rattle.std.specs.Iterator.{at_most};
 ghost use Rattle.std.specs.List.{prefix_len};
 ghost use Rattle.script.specs.Grammar.{leaving, word_here, number_at, number_here, end_here};
 ghost use Rattle.script.specs.Numbers.{number_of};
@@ -30,22 +31,16 @@ fn word_len(line: &[u8]) -> usize
     line.iter().take_while(|b| !is_gap(**b)).count()
 }
 
-impl<'a> Words<'a> {
-    // The words of a line, none of them read.
-    pub fn new(line: &'a [u8]) -> Self
-        ensures { result ≡ record { read = 0; words = words_of line.now } }
-    {
-        Words {
-            rest: line,
-            place: 0,
-        }
-    }
+// The words that are left, in order.
+impl<'a> Iterator for Words<'a> {
+    type Item = &'a [u8];
 
-    // The next word, if there is one.
+    ghost next_gives = { Next };
+
+    ghost remaining = { λ l. at_most (length l.words) };
+
     #[tactic(auto, using(crate::proofs::Cuts::cutting))]
-    pub fn next(&mut self) -> Option<&'a [u8]>
-        ensures { Next self.old result self.new }
-    {
+    fn next(&mut self) -> Option<&'a [u8]> {
         let line = self.rest;
         let (_, trimmed) = line.split_at(gap_len(line));
         if trimmed.is_empty() {
@@ -55,6 +50,18 @@ impl<'a> Words<'a> {
         self.rest = rest;
         self.place += 1;
         Some(word)
+    }
+}
+
+impl<'a> Words<'a> {
+    // The words of a line, none of them read.
+    pub fn new(line: &'a [u8]) -> Self
+        ensures { result ≡ record { read = 0; words = words_of line.now } }
+    {
+        Words {
+            rest: line,
+            place: 0,
+        }
     }
 
     // The next word, which has to be there.

@@ -1,7 +1,7 @@
 use Rattle.std.proofs.Common.{◌<◌, length, sym, arith}
 use Rattle.std.proofs.lemmas.Bool.{eqb-false}
 use Rattle.script.proofs.Cuts.{long}
-use Rattle.script.proofs.words.Words.next.Goals as goal
+use Rattle.script.proofs.cursor.WordsIterator.next.Goals as goal
 
 pub invariant_of-self : goal.invariant_of-self
 invariant_of-self c =
