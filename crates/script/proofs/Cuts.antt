@@ -1,7 +1,7 @@
 -- How the first word of a line is cut off.
 use Rattle.std.proofs.Common.{◌≡◌, ℕ, ◌+◌, ◌<◌, Bool, true, false, cond, not, List, [], ◌∷◌, length, take, drop, sym, refl, ap, ◌∙◌, ⊎_elim, one-add, arith}
 use Rattle.std.specs.List.{prefix_len}
-use Rattle.std.proofs.lemmas.Bool.{cases_Bool, both_ways}
+use Rattle.std.proofs.lemmas.Bool.{cases_Bool}
 use Rattle.std.proofs.lemmas.List.Sums.{prefix_len-le-length}
 use Rattle.script.specs.Words.{is_gap, at_gap, words_of}
 
@@ -30,12 +30,12 @@ none_leads [] e = refl
 none_leads (b ∷ bs) e = rw e
 
 some_lead : (l : List ℕ) → at_gap l ≡ false → 0 < prefix_len in_word l
-some_lead [] e = absurd (both_ways true e refl)
+some_lead [] e = cc
 some_lead (b ∷ bs) e = rw e (omega arith)
 
 cut : (l : List ℕ) → at_gap l ≡ false → words_of l ≡ take (prefix_len in_word l) l ∷ words_of (drop (prefix_len in_word l) l)
 unfolding words_of
-cut [] e = absurd (both_ways true e refl)
+cut [] e = cc
 cut (b ∷ bs) e =
     ⊎_elim
     (λ g. rw (e, none_leads bs g, g))

@@ -6,6 +6,7 @@ use rules::Side;
 use std::alloc::AllocFailed;
 use ticks::TickRow;
 
+// No Option: an order at the market is a kind of its own, and not an order whose limit is missing.
 #[derive(Clone, Copy)]
 pub enum OrderPrice {
     Limit(u32),
