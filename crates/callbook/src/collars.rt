@@ -15,7 +15,7 @@ fn plain_collar(words: PlainCollar) -> Result<AnyCollar, CollarFault>
     }
 }
 
-// Each arm makes a collar of another type from what lies under it, so no plain_collar of type AnyCollar can stand there.
+// Each arm wants the collar underneath by its own type, which plain_collar hides in an AnyCollar.
 fn static_collar(k: u32, over: PlainCollar) -> Result<AnyCollar, CollarFault>
     ensures { MatchResult result (Made (CollarWords.AroundStatic k over)) (λ f. words_fault (CollarWords.AroundStatic k over) ≡ Some f) }
 {
