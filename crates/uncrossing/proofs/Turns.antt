@@ -1,5 +1,5 @@
 -- Pairing, turn by turn: the first buy and the first sell trade, until one of them does not accept.
-use Rattle.std.proofs.Common.{◌≡◌, ℕ, suc, ◌+◌, ◌-◌, ◌<◌, ◌≤◌, min, Bool, true, false, cond, leb, List, [], ◌∷◌, length, get_or, take, drop, set, sym, refl, ap, ◌∙◌, subst, inl, inr, add-one, arith}
+use Rattle.std.proofs.Common.{◌≡◌, ℕ, suc, ◌+◌, ◌-◌, ◌<◌, ◌≤◌, min, Bool, true, false, cond, leb, List, [], ◌∷◌, Some, length, get_or, take, drop, set, sym, refl, ap, ◌∙◌, subst, inl, inr, add-one, arith}
 use lib.Seq.{sets}
 use Rattle.std.specs.List.{AllByRecursion}
 use Rattle.std.proofs.lemmas.List.{drop-set-lt, length-take}
@@ -16,7 +16,7 @@ use Rattle.uncrossing.specs.declared.pairing.Met.{Met}
 use Rattle.uncrossing.specs.Spans.{span, blank_order}
 use Rattle.uncrossing.specs.Fronts.{Fronted, InFront}
 use Rattle.uncrossing.specs.Fits.{OrdersFit, QueuesStart, orders_left}
-use Rattle.uncrossing.specs.Meetings.{firsts_meet, paired_at, TookOff, MetBy}
+use Rattle.uncrossing.specs.Meetings.{firsts_meet, NextPair, paired_at, TookOff, MetBy}
 use Rattle.uncrossing.proofs.Spans.{span_cons, span_set, span_whole}
 use Rattle.uncrossing.proofs.Written.{sets_written}
 
@@ -184,10 +184,9 @@ starts p d page fit fronts =
     }
 
 -- one turn
-module _ {p i j q : ℕ} {d d' : Desk} {page page' : Page} {met : Met} {buys sells : List Order} (h : Pairing p d page d' page' met)
-    (meet : firsts_meet p (span met.buys d'.state.buys d'.buys) (span met.sells d'.state.sells d'.sells) ≡ true)
-    (e : q ≡ min (get_or d'.buys met.buys blank_order).«open» (get_or d'.sells met.sells blank_order).«open»)
-    (tx : TookOff d'.buys buys met.buys q i) (ty : TookOff d'.sells sells met.sells q j) where
+module _ {p i j q : ℕ} {d d' : Desk} {page page' : Page} {met : Met} {buy sell : Order} {buys sells : List Order} (h : Pairing p d page d' page' met)
+    (next : NextPair p (span met.buys d'.state.buys d'.buys) (span met.sells d'.state.sells d'.sells) (Some (buy, sell)))
+    (e : q ≡ min buy.«open» sell.«open») (tx : TookOff d'.buys buys met.buys q i) (ty : TookOff d'.sells sells met.sells q j) where
   abbrev b : Order
   b = get_or d'.buys met.buys blank_order
 
@@ -195,7 +194,19 @@ module _ {p i j q : ℕ} {d d' : Desk} {page page' : Page} {met : Met} {buys sel
   s = get_or d'.sells met.sells blank_order
 
   pub lt : (met.buys < d'.state.buys) × (met.sells < d'.state.sells)
-  lt = both_left p d'.buys d'.sells met.buys d'.state.buys met.sells d'.state.sells h.start.buys h.start.sells meet
+  lt = both_left p d'.buys d'.sells met.buys d'.state.buys met.sells d'.state.sells h.start.buys h.start.sells next.0
+
+  bs : span met.buys d'.state.buys d'.buys ≡ b ∷ span (met.buys + 1) d'.state.buys d'.buys
+  bs = span_cons d'.buys met.buys d'.state.buys blank_order lt.0 h.start.buys
+
+  ss : span met.sells d'.state.sells d'.sells ≡ s ∷ span (met.sells + 1) d'.state.sells d'.sells
+  ss = span_cons d'.sells met.sells d'.state.sells blank_order lt.1 h.start.sells
+
+  buy_is : buy ≡ b
+  buy_is = next.1 ∙ ap (λ os. get_or os 0 blank_order) bs
+
+  sell_is : sell ≡ s
+  sell_is = next.2 ∙ ap (λ os. get_or os 0 blank_order) ss
 
   buys_off : Off d'.buys buys d'.state.buys met.buys q i
   buys_off = off d'.buys buys d'.state.buys met.buys q i lt.0 h.start.buys tx
@@ -206,22 +217,20 @@ module _ {p i j q : ℕ} {d d' : Desk} {page page' : Page} {met : Met} {buys sel
   -- at least one of the two is used up
   pub fewer : orders_left (record { buys = i; sells = j }) d'.state < orders_left met d'.state
   fewer = elim (cases_lt b.«open» s.«open») [
-    | inl k ↦ omega (arith, buys_off.gone (omega arith), sells_off.low, lt.0, lt.1)
-    | inr k ↦ omega (arith, sells_off.gone (omega arith), buys_off.low, lt.0, lt.1)
+    | inl k ↦ omega (arith, buys_off.gone (omega (arith, e, ap (λ o. o.«open») buy_is, ap (λ o. o.«open») sell_is)), sells_off.low, lt.0, lt.1)
+    | inr k ↦ omega (arith, sells_off.gone (omega (arith, e, ap (λ o. o.«open») buy_is, ap (λ o. o.«open») sell_is)), buys_off.low, lt.0, lt.1)
   ]
 
-  pub turn : (page'' : Page) → page''.lines ≡ set page'.lines page'.written (Trade b.number s.number p q) → page''.written ≡ page'.written + 1 → length buys ≡ length d'.buys → length sells ≡ length d'.sells
+  pub turn : (page'' : Page) → page''.lines ≡ set page'.lines page'.written (Trade buy.number sell.number p q) → page''.written ≡ page'.written + 1 → length buys ≡ length d'.buys → length sells ≡ length d'.sells
       → Pairing p d page (desk_of d'.state buys sells d'.stops) page'' (record { buys = i; sells = j })
   turn page'' line place bl sl =
-      let bs = span_cons d'.buys met.buys d'.state.buys blank_order lt.0 h.start.buys in
-      let ss = span_cons d'.sells met.sells d'.state.sells blank_order lt.1 h.start.sells in
       let bq = buys_off.queue in
       let sq = sells_off.queue in
-      let first : firsts_meet p (b ∷ span (met.buys + 1) d'.state.buys d'.buys) (s ∷ span (met.sells + 1) d'.state.sells d'.sells) ≡ true = rw (bs, ss) at meet in
+      let first : firsts_meet p (b ∷ span (met.buys + 1) d'.state.buys d'.buys) (s ∷ span (met.sells + 1) d'.state.sells d'.sells) ≡ true = rw (bs, ss) at next.0 in
       let go = pairs_trade p b s (span (met.buys + 1) d'.state.buys d'.buys) (span (met.sells + 1) d'.state.sells d'.sells) first in
       let before = h.leads in
       record {
-        leads = rw (line, place, add-one, bq, sq, e) (sym (ap (finish page') go)) ∙ rw (bs, ss) at before;
+        leads = rw (line, place, add-one, bq, sq, e, buy_is, sell_is) (sym (ap (finish page') go)) ∙ rw (bs, ss) at before;
         fronts = record {
           buys = subst (Fronted (accepts_buying p)) (sym bq) (front_less (accepts_buying p) (λ o k. refl) b q _ (subst (Fronted (accepts_buying p)) bs h.fronts.buys));
           sells = subst (Fronted (accepts_selling p)) (sym sq) (front_less (accepts_selling p) (λ o k. refl) s q _ (subst (Fronted (accepts_selling p)) ss h.fronts.sells));

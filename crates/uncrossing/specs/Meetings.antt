@@ -1,5 +1,5 @@
 -- The trades at a price, in place.
-use Rattle.std.specs.Prelude.{◌≡◌, ℕ, ◌+◌, ◌<◌, ◌≤◌, Bool, false, ◌&&◌, List, [], ◌∷◌, get_or, take, drop, slice_index_or, slice_set}
+use Rattle.std.specs.Prelude.{◌≡◌, ℕ, ◌+◌, ◌<◌, ◌≤◌, Bool, true, false, ◌&&◌, List, [], ◌∷◌, Option, MatchOption, get_or, take, drop, slice_index_or, slice_set}
 use Rattle.rules.specs.declared.order.Order.{Order}
 use Rattle.rules.specs.Accepts.{accepts_buying, accepts_selling}
 use Rattle.trading.specs.Books.{reduced}
@@ -16,6 +16,12 @@ abbrev pub firsts_meet : ℕ → List Order → List Order → Bool
 firsts_meet p [] ss = false
 firsts_meet p (b ∷ bs) [] = false
 firsts_meet p (b ∷ bs) (s ∷ ss) = accepts_buying p b && accepts_selling p s
+
+-- the first of each queue, where both accept the price
+abbrev pub NextPair : ℕ → List Order → List Order → Option (Order × Order) → Type 0
+NextPair p bs ss r =
+    MatchOption r (firsts_meet p bs ss ≡ false)
+    (λ x. (firsts_meet p bs ss ≡ true) × (x.0 ≡ slice_index_or bs 0 blank_order) × (x.1 ≡ slice_index_or ss 0 blank_order))
 
 -- the pairing of the queues of a desk
 abbrev pub paired_at : ℕ → Desk → Paired

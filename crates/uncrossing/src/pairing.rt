@@ -5,7 +5,7 @@ ghost use Rattle.lent.specs.Contents.{contents, page, Kept};
 ghost use Rattle.uncrossing.specs.Spans.{span};
 ghost use Rattle.uncrossing.specs.Fits.{OrdersFit, QueuesStart};
 ghost use Rattle.uncrossing.specs.Fronts.{InFront};
-ghost use Rattle.uncrossing.specs.Meetings.{firsts_meet, TookOff, MetBy};
+ghost use Rattle.uncrossing.specs.Meetings.{NextPair, TookOff, MetBy};
 
 use lent::{Desk, Report};
 use rules::Order;
@@ -18,16 +18,17 @@ pub struct Met {
     pub sells: usize,
 }
 
-// Whether the first buy and the first sell that are left accept the price.
-fn firsts_meet(price: u32, met: Met, desk: &Desk<'_>) -> bool
+// The first buy and the first sell that are left, where both accept the price.
+fn next_pair(price: u32, met: Met, desk: &Desk<'_>) -> Option<(Order, Order)>
     requires { QueuesStart met (contents desk.now) }
-    ensures { let d = contents desk.now in result ≡ firsts_meet price (span met.buys d.state.buys d.buys) (span met.sells d.state.sells d.sells) }
+    ensures { let d = contents desk.now in NextPair price (span met.buys d.state.buys d.buys) (span met.sells d.state.sells d.sells) result }
 {
-    let buys = &desk.buys[met.buys..desk.state.buys];
-    let sells = &desk.sells[met.sells..desk.state.sells];
-    match (buys.first(), sells.first()) {
-        (Some(buy), Some(sell)) => buy.accepts_buying(price) && sell.accepts_selling(price),
-        _ => false,
+    let buy = desk.buys[met.buys..desk.state.buys].first()?;
+    let sell = desk.sells[met.sells..desk.state.sells].first()?;
+    if buy.accepts_buying(price) && sell.accepts_selling(price) {
+        Some((*buy, *sell))
+    } else {
+        None
     }
 }
 
@@ -61,10 +62,8 @@ pub(crate) fn pair_all(price: u32, desk: &mut Desk<'_>, report: &mut Report<'_>)
     ensures kept { Kept desk.old report.old desk.new report.new }
 {
     let mut met = Met::default();
-    // by index: the two queues go on apart from each other
-    'trades: while firsts_meet(price, met, desk) {
-        let buy = desk.buys[met.buys];
-        let sell = desk.sells[met.sells];
+    // two places, since each queue goes on by itself
+    'trades: while let Some((buy, sell)) = next_pair(price, met, desk) {
         let quantity = smaller_open(buy, sell);
         report.write(ReportLine::Trade {
             buy: buy.number,

@@ -1,4 +1,4 @@
-use Rattle.std.proofs.Common.{sym, rules}
+use Rattle.std.proofs.Common.{rules}
 use Rattle.lent.specs.Contents.{contents, page}
 use Rattle.uncrossing.proofs.Turns.{turn, met_by}
 use Rattle.uncrossing.proofs.pairing.pair_all.Goals as goal
@@ -7,10 +7,10 @@ pub trades-preserved : goal.trades-preserved
 trades-preserved c =
     let w = c.write in
     let x = c.take_off in
-    let y = c.take_off-in-trades in
-    (turn c.trades.invariant.0 (sym c.trades-test.ensures) c.smaller_open-quantity.ensures x.ensures y.ensures (page w.new.self) w.ensures.line w.ensures.written x.auto.orders y.auto.orders, search rules)
+    let y = c.take_off-in-Some in
+    (turn c.trades.invariant.0 c.in-Some.ensures c.smaller_open-quantity.ensures x.ensures y.ensures (page w.new.self) w.ensures.line w.ensures.written x.auto.orders y.auto.orders, search rules)
 
 pub returns-clause-paired : goal.returns-clause-paired
 returns-clause-paired c =
     let l = c.trades in
-    met_by c.args.price (contents c.args.desk.now) (contents l.desk) (page c.args.report.now) (page l.report) l.met c.requires.fit (sym c.trades-test.ensures) l.invariant.0
+    met_by c.args.price (contents c.args.desk.now) (contents l.desk) (page c.args.report.now) (page l.report) l.met c.requires.fit c.in_default.ensures l.invariant.0
