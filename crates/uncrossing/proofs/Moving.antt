@@ -32,7 +32,7 @@ opens met d buys' sells' p p1 p' k m n fit bl sl a b hb hs ht =
     let both = wrote_both a.lines b.lines (omega (arith, a.few, b.few, fit.lines)) in
     record {
       book = rw (bq, sq);
-      counts = record { buys = omega (arith, a.few, a.on, fit.queues.buys); sells = omega (arith, b.few, b.on, fit.queues.sells); stops = ht };
+      counts = record { buys = omega (arith, a.few, a.lines.place, fit.queues.buys); sells = omega (arith, b.few, b.lines.place, fit.queues.sells); stops = ht };
       lines = both.lines;
       place = both.place;
       beyond = record {

@@ -1,7 +1,7 @@
 -- Parts of tables.
 use Rattle.std.proofs.Common.{◌≡◌, ℕ, suc, ◌+◌, ◌-◌, ◌<◌, ◌≤◌, List, [], ◌∷◌, length, get_or, take, drop, set, sym, ap, ◌∙◌, arith}
 use native.Mathlib.Nat.{sub-zero}
-use Rattle.std.proofs.lemmas.List.{drop_more, drop-set, drop-set-lt, drop-drop, length-drop, length-take-le}
+use Rattle.std.proofs.lemmas.List.{drop_more, drop-set, drop-set-lt, drop-drop}
 use Rattle.uncrossing.specs.Spans.{span}
 
 module _ {X : Type 0} where
@@ -23,9 +23,6 @@ module _ {X : Type 0} where
 
   pub span_whole : (xs : List X) (n : ℕ) → span 0 n xs ≡ take n xs
   span_whole xs n = rw sub-zero
-
-  pub length_span : (xs : List X) (i n : ℕ) → i ≤ n → n ≤ length xs → length (span i n xs) ≡ n - i
-  length_span xs i n le h = length-take-le (n - i) (drop i xs) (omega (arith, length-drop i xs))
 
   -- what lies past a place lies past a later one
   pub past_later : (xs ys : List X) (m n : ℕ) → m ≤ n → drop m xs ≡ drop m ys → drop n xs ≡ drop n ys

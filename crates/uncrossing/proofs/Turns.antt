@@ -1,12 +1,10 @@
 -- Pairing, turn by turn: the first buy and the first sell trade, until one of them does not accept.
-use Rattle.std.proofs.Common.{◌≡◌, ℕ, suc, ◌+◌, ◌-◌, ◌<◌, ◌≤◌, min, Bool, true, false, cond, leb, List, [], ◌∷◌, Some, length, get_or, take, drop, set, sym, refl, ap, ◌∙◌, subst, inl, inr, add-one, arith}
-use lib.Seq.{sets}
+use Rattle.std.proofs.Common.{◌≡◌, ℕ, ◌+◌, ◌-◌, ◌<◌, ◌≤◌, min, Bool, true, false, cond, leb, List, [], ◌∷◌, Some, length, get_or, drop, set, sym, refl, ap, ◌∙◌, subst, inl, inr, add-one, arith}
 use Rattle.std.specs.List.{AllByRecursion}
 use Rattle.std.proofs.lemmas.List.{drop-set-lt, length-take}
 use Rattle.std.proofs.lemmas.Bool.{and_parts, and_cases, both_ways, cases_lt, cases_Bool, cond_both, lt-leb, le-leb, eq-eqb, ne_eqb, lt-ltb, le-ltb}
 use Rattle.rules.specs.declared.order.Order.{Order}
 use Rattle.rules.specs.Accepts.{accepts_buying, accepts_selling}
-use Rattle.trading.specs.declared.report.ReportLine.{ReportLine}
 use Rattle.trading.specs.declared.report.ReportLine.TheVariants.{Trade}
 use Rattle.trading.specs.Books.{reduced}
 use Rattle.trading.specs.Desks.{Desk, desk_of}
@@ -15,10 +13,10 @@ use Rattle.lent.specs.Contents.{Page}
 use Rattle.uncrossing.specs.declared.pairing.Met.{Met}
 use Rattle.uncrossing.specs.Spans.{span, blank_order}
 use Rattle.uncrossing.specs.Fronts.{Fronted, InFront}
-use Rattle.uncrossing.specs.Fits.{OrdersFit, QueuesStart, orders_left}
+use Rattle.uncrossing.specs.Fits.{QueuesStart, orders_left}
 use Rattle.uncrossing.specs.Meetings.{firsts_meet, NextPair, paired_at, TookOff, MetBy}
-use Rattle.uncrossing.proofs.Spans.{span_cons, span_set, span_whole}
-use Rattle.uncrossing.proofs.Written.{sets_written}
+use Rattle.uncrossing.proofs.Spans.{span_cons, span_set}
+use Rattle.uncrossing.proofs.Written.{page_after, wrote_all}
 
 -- ---- the rule's pairing
 
@@ -146,16 +144,8 @@ pub record Finish : Type 0 where
   pub sells : List Order
   pub page : Page
 
-abbrev place_after : ℕ → List ReportLine → ℕ
-place_after i [] = i
-place_after i (y ∷ ys) = place_after (suc i) ys
-
 abbrev pub finish : Page → Paired → Finish
-finish p r = record { buys = r.buys; sells = r.sells; page = record { lines = sets p.lines p.written r.trades; written = place_after p.written r.trades } }
-
-place_after_is : (i : ℕ) (ys : List ReportLine) → place_after i ys ≡ i + length ys
-place_after_is i [] = omega arith
-place_after_is i (y ∷ ys) = omega (arith, place_after_is (suc i) ys)
+finish p r = record { buys = r.buys; sells = r.sells; page = page_after p r.trades }
 
 -- a pairing at p is under way: what is still to come leads where all of it leads
 pub record Pairing (p : ℕ) (d : Desk) (page : Page) (d' : Desk) (page' : Page) (met : Met) : Type 0 where
@@ -168,21 +158,6 @@ pub record Pairing (p : ℕ) (d : Desk) (page : Page) (d' : Desk) (page' : Page)
   pub stops : d'.stops ≡ d.stops
   pub state : d'.state ≡ d.state
 
-pub starts : (p : ℕ) (d : Desk) (page : Page) → OrdersFit d page → InFront p (take d.state.buys d.buys) (take d.state.sells d.sells) → Pairing p d page d page (record { buys = 0; sells = 0 })
-starts p d page fit fronts =
-    let bs = span_whole d.buys d.state.buys in
-    let ss = span_whole d.sells d.state.sells in
-    record {
-      leads = rw (bs, ss);
-      fronts = rw (bs, ss) fronts;
-      start = record { buys_start = omega arith; sells_start = omega arith; buys = fit.buys; sells = fit.sells };
-      few = omega arith;
-      buys_beyond = refl;
-      sells_beyond = refl;
-      stops = refl;
-      state = refl;
-    }
-
 -- one turn
 module _ {p i j q : ℕ} {d d' : Desk} {page page' : Page} {met : Met} {buy sell : Order} {buys sells : List Order} (h : Pairing p d page d' page' met)
     (next : NextPair p (span met.buys d'.state.buys d'.buys) (span met.sells d'.state.sells d'.sells) (Some (buy, sell)))
@@ -193,7 +168,7 @@ module _ {p i j q : ℕ} {d d' : Desk} {page page' : Page} {met : Met} {buy sell
   abbrev s : Order
   s = get_or d'.sells met.sells blank_order
 
-  pub lt : (met.buys < d'.state.buys) × (met.sells < d'.state.sells)
+  lt : (met.buys < d'.state.buys) × (met.sells < d'.state.sells)
   lt = both_left p d'.buys d'.sells met.buys d'.state.buys met.sells d'.state.sells h.start.buys h.start.sells next.0
 
   bs : span met.buys d'.state.buys d'.buys ≡ b ∷ span (met.buys + 1) d'.state.buys d'.buys
@@ -215,7 +190,7 @@ module _ {p i j q : ℕ} {d d' : Desk} {page page' : Page} {met : Met} {buy sell
   sells_off = off d'.sells sells d'.state.sells met.sells q j lt.1 h.start.sells ty
 
   -- at least one of the two is used up
-  pub fewer : orders_left (record { buys = i; sells = j }) d'.state < orders_left met d'.state
+  fewer : orders_left (record { buys = i; sells = j }) d'.state < orders_left met d'.state
   fewer = elim (cases_lt b.«open» s.«open») [
     | inl k ↦ omega (arith, buys_off.gone (omega (arith, e, ap (λ o. o.«open») buy_is, ap (λ o. o.«open») sell_is)), sells_off.low, lt.0, lt.1)
     | inr k ↦ omega (arith, sells_off.gone (omega (arith, e, ap (λ o. o.«open») buy_is, ap (λ o. o.«open») sell_is)), buys_off.low, lt.0, lt.1)
@@ -244,16 +219,14 @@ module _ {p i j q : ℕ} {d d' : Desk} {page page' : Page} {met : Met} {buy sell
       }
 
 -- the last turn is done
-pub met_by : (p : ℕ) (d d' : Desk) (page page' : Page) (met : Met) → OrdersFit d page → firsts_meet p (span met.buys d'.state.buys d'.buys) (span met.sells d'.state.sells d'.sells) ≡ false
+pub met_by : {p : ℕ} {d d' : Desk} {page page' : Page} {met : Met} → page'.written ≤ length page.lines → firsts_meet p (span met.buys d'.state.buys d'.buys) (span met.sells d'.state.sells d'.sells) ≡ false
     → Pairing p d page d' page' met → MetBy p d page d' page' met
-met_by p d d' page page' met fit unmet h =
-    let r = paired_at p d in
-    let end : finish page' (unpaired (span met.buys d'.state.buys d'.buys) (span met.sells d'.state.sells d'.sells)) ≡ finish page r = sym (ap (finish page') (pairs_end p _ _ h.fronts unmet)) ∙ h.leads in
-    let place : page'.written ≡ page.written + length r.trades = ap (λ x. x.page.written) end ∙ place_after_is page.written r.trades in
+met_by {p} {d} {d'} {page} {page'} {met} within unmet h =
+    let end : finish page' (unpaired (span met.buys d'.state.buys d'.buys) (span met.sells d'.state.sells d'.sells)) ≡ finish page (paired_at p d) = sym (ap (finish page') (pairs_end p _ _ h.fronts unmet)) ∙ h.leads in
     record {
       buys_left = ap (λ s. span met.buys s.buys d'.buys) (sym h.state) ∙ ap (λ x. x.buys) end;
       sells_left = ap (λ s. span met.sells s.sells d'.sells) (sym h.state) ∙ ap (λ x. x.sells) end;
-      trades = record { lines = ap (λ x. x.page.lines) end ∙ sets_written page.lines page.written r.trades (omega (arith, place, h.few, fit.lines)); place = place };
+      trades = wrote_all (ap (λ x. x.page) end) within;
       buys_start = omega (arith, h.start.buys_start, ap (λ s. s.buys) h.state);
       sells_start = omega (arith, h.start.sells_start, ap (λ s. s.sells) h.state);
       few = h.few;

@@ -1,22 +1,43 @@
--- Lines written into a report.
-use Rattle.std.proofs.Common.{◌≡◌, ℕ, suc, ◌+◌, ◌<◌, ◌≤◌, List, [], ◌∷◌, ◌++◌, length, get_or, take, drop, set, sym, refl, ap, ◌∙◌, add-zero, add-one, arith}
+-- Lines written on a page.
+use Rattle.std.proofs.Common.{◌≡◌, ℕ, suc, ◌+◌, ◌<◌, ◌≤◌, List, [], ◌∷◌, ◌++◌, length, get_or, take, drop, set, sym, ap, ◌∙◌, add-one, arith}
 use lib.Seq.{sets, sets-eq}
-use Rattle.std.proofs.lemmas.List.{append_assoc, length-append, length-take-le, take-append-drop, take_at, drop_at, drop-drop, drop_more, drop_all}
+use Rattle.std.proofs.lemmas.List.{append_assoc, length-append, length-take-le, take_at, drop_at, drop-drop, at_drop_more, drop_all}
 use Rattle.trading.specs.declared.report.ReportLine.{ReportLine}
 use Rattle.trading.specs.Moves.{written_at}
 use Rattle.trading.specs.Uncrossings.{lapses_by}
 use Rattle.lent.specs.Contents.{Page}
 use Rattle.uncrossing.specs.Lines.{Wrote}
 
-pub written_none : (r : List ReportLine) (at : ℕ) → written_at r at [] ≡ r
-written_none r at = rw add-zero (take-append-drop at r)
+-- ---- line by line
 
--- one by one
-pub sets_written : (r : List ReportLine) (at : ℕ) (ls : List ReportLine) → at + length ls ≤ length r → sets r at ls ≡ written_at r at ls
-sets_written r at ls h = sets-eq ls r at h ∙ append_assoc (take at r) ls (drop (at + length ls) r)
+abbrev place_after : ℕ → List ReportLine → ℕ
+place_after i [] = i
+place_after i (y ∷ ys) = place_after (suc i) ys
 
--- lines after lines
-pub written_twice : (r : List ReportLine) (at : ℕ) (a b : List ReportLine) → at + length a + length b ≤ length r → written_at (written_at r at a) (at + length a) b ≡ written_at r at (a ++ b)
+place_after_is : (i : ℕ) (ys : List ReportLine) → place_after i ys ≡ i + length ys
+place_after_is i [] = omega arith
+place_after_is i (y ∷ ys) = omega (arith, place_after_is (suc i) ys)
+
+-- where lines lead that are written on a page one by one
+abbrev pub page_after : Page → List ReportLine → Page
+page_after p ls = record { lines = sets p.lines p.written ls; written = place_after p.written ls }
+
+-- one line more is written
+pub wrote_one : (p p' : Page) (line : ReportLine) (ls : List ReportLine) → p'.lines ≡ set p.lines p.written line → p'.written ≡ p.written + 1 → page_after p' ls ≡ page_after p (line ∷ ls)
+wrote_one p p' line ls e place = rw (e, place, add-one)
+
+-- no line is left
+pub wrote_all : {p p' : Page} {ls : List ReportLine} → page_after p' [] ≡ page_after p ls → p'.written ≤ length p.lines → Wrote ls p p'
+wrote_all {p} {p'} {ls} e room =
+    let place : p'.written ≡ p.written + length ls = ap (λ x. x.written) e ∙ place_after_is p.written ls in
+    record {
+      lines = ap (λ x. x.lines) e ∙ sets-eq ls p.lines p.written (omega arith) ∙ append_assoc (take p.written p.lines) ls (drop (p.written + length ls) p.lines);
+      place = place;
+    }
+
+-- ---- lines after lines
+
+written_twice : (r : List ReportLine) (at : ℕ) (a b : List ReportLine) → at + length a + length b ≤ length r → written_at (written_at r at a) (at + length a) b ≡ written_at r at (a ++ b)
 written_twice r at a b h =
     let n = at + length a in
     let parts : written_at r at a ≡ (take at r ++ a) ++ drop n r = sym (append_assoc (take at r) a (drop n r)) in
@@ -30,10 +51,6 @@ written_twice r at a b h =
     ∙ append_assoc (take at r) a (b ++ drop (at + length (a ++ b)) r)
     ∙ ap (λ xs. take at r ++ xs) (sym (append_assoc a b (drop (at + length (a ++ b)) r)))
 
--- the same of pages
-pub wrote_none : (p : Page) → Wrote [] p p
-wrote_none p = record { lines = sym (written_none p.lines p.written); place = omega arith }
-
 pub wrote_both : {p p1 p2 : Page} {a b : List ReportLine} → Wrote a p p1 → Wrote b p1 p2 → p2.written ≤ length p.lines → Wrote (a ++ b) p p2
 wrote_both {p} {p1} {p2} {a} {b} x y room = record {
   lines = y.lines ∙ ap (λ r. written_at r p1.written b) x.lines ∙ ap (λ k. written_at (written_at p.lines p.written a) k b) x.place ∙ written_twice p.lines p.written a b (omega (arith, x.place, y.place));
@@ -43,23 +60,15 @@ wrote_both {p} {p1} {p2} {a} {b} x y room = record {
 -- ---- a lapse line for each record of a queue
 
 module _ {R : Type 0} (lapse : R → ReportLine) where
-  pub length_lapses : (rs : List R) → length (lapses_by lapse rs) ≡ length rs
-  unfolding lapses_by
-  length_lapses [] = refl
-  length_lapses (r ∷ rs) = ap suc (length_lapses rs)
-
   -- the lines that are left lead where all lines lead
-  pub lapse_next : (queue : List R) (p p' : Page) (whole : List ReportLine) (i : ℕ) (r : R) (line : ReportLine) → i < length queue → r ≡ get_or queue i r → line ≡ lapse r → p'.lines ≡ set p.lines p.written line → p'.written ≡ p.written + 1
-      → sets p.lines p.written (lapses_by lapse (drop i queue)) ≡ whole → sets p'.lines p'.written (lapses_by lapse (drop (i + 1) queue)) ≡ whole
+  pub lapse_next : (queue : List R) (i : ℕ) (p p' whole : Page) {r : R} {line : ReportLine} → i < length queue → r ≡ get_or queue i r → line ≡ lapse r → p'.lines ≡ set p.lines p.written line → p'.written ≡ p.written + 1
+      → page_after p (lapses_by lapse (drop i queue)) ≡ whole → page_after p' (lapses_by lapse (drop (i + 1) queue)) ≡ whole
   unfolding lapses_by
-  lapse_next queue p p' whole i r line lt is e one next h =
-      let y : line ≡ lapse (get_or queue i r) = e ∙ ap lapse is in
-      rw (one, next, add-one, y) (ap (λ xs. sets p.lines p.written (lapses_by lapse xs)) (sym (drop_more queue i r lt)) ∙ h)
+  lapse_next queue i p p' whole {r} {line} lt is e one next h =
+      let ls = lapses_by lapse (drop (i + 1) queue) in
+      wrote_one p p' line ls one next ∙ ap (λ l. page_after p (l ∷ ls)) (e ∙ ap lapse is) ∙ sym (at_drop_more (λ rs. page_after p (lapses_by lapse rs)) queue i r lt) ∙ h
 
-  pub lapse_end : (queue : List R) (p p' : Page) (i : ℕ) → p.written + length queue ≤ length p.lines → length queue ≤ i → i ≤ length queue → p'.written ≡ p.written + i
-      → sets p'.lines p'.written (lapses_by lapse (drop i queue)) ≡ sets p.lines p.written (lapses_by lapse queue) → Wrote (lapses_by lapse queue) p p'
+  pub lapse_end : (queue : List R) (i : ℕ) {p p' : Page} → length queue ≤ i → page_after p' (lapses_by lapse (drop i queue)) ≡ page_after p (lapses_by lapse queue) → p'.written ≤ length p.lines
+      → Wrote (lapses_by lapse queue) p p'
   unfolding lapses_by
-  lapse_end queue p p' i room done last place h = record {
-    lines = ap (λ xs. sets p'.lines p'.written (lapses_by lapse xs)) (sym (drop_all i queue done)) ∙ h ∙ sets_written p.lines p.written (lapses_by lapse queue) (omega (arith, length_lapses queue));
-    place = omega (arith, place, length_lapses queue);
-  }
+  lapse_end queue i {p} {p'} done h = wrote_all (ap (λ rs. page_after p' (lapses_by lapse rs)) (sym (drop_all i queue done)) ∙ h)

@@ -18,4 +18,3 @@ pub record SiftedTo (xs ys : List Order) (i n : ℕ) (p p' : Page) (count : ℕ)
   pub beyond : drop n ys ≡ drop n xs
   pub lines : Wrote (vfu_lines (span i n xs)) p p'
   pub few : p'.written + count ≤ p.written + (n - i)
-  pub on : p.written ≤ p'.written

@@ -33,7 +33,8 @@ fn lapse_rest(met: Met, desk: &Desk<'_>, report: &mut Report<'_>)
 fn close_rest(met: Met, desk: &mut Desk<'_>, report: &mut Report<'_>)
     requires orders { RestFits met (contents desk.old) (page report.old) }
     requires stops { StopsFit met (contents desk.old) (page report.old) }
-    ensures came { let d = contents desk.old in ((n : ℕ) → Comes n (moved (emptied (book_from met d)) (all_lapses (book_from met d))) d (page report.old) (contents desk.new) (page report.new)) }
+    ensures came { let d = contents desk.old in
+        ((n : ℕ) → Comes n (moved (emptied (book_from met d)) (all_lapses (book_from met d))) d (page report.old) (contents desk.new) (page report.new)) }
     ensures tables { TablesStay (contents desk.old) (contents desk.new) }
     ensures kept { Kept desk.old report.old desk.new report.new }
 {
@@ -47,7 +48,8 @@ fn close_rest(met: Met, desk: &mut Desk<'_>, report: &mut Report<'_>)
 // Without a price: everything lapses, and the book is ended.
 pub fn close_unprinted(desk: &mut Desk<'_>, report: &mut Report<'_>)
     requires { AllFit (contents desk.old) (page report.old) }
-    ensures came { let d = contents desk.old in ((n : ℕ) → Comes n (moved (emptied (book_of d)) (all_lapses (book_of d))) d (page report.old) (contents desk.new) (page report.new)) }
+    ensures came { let d = contents desk.old in
+        ((n : ℕ) → Comes n (moved (emptied (book_of d)) (all_lapses (book_of d))) d (page report.old) (contents desk.new) (page report.new)) }
     ensures tables { TablesStay (contents desk.old) (contents desk.new) }
     ensures kept { Kept desk.old report.old desk.new report.new }
 {
@@ -58,7 +60,9 @@ pub fn close_unprinted(desk: &mut Desk<'_>, report: &mut Report<'_>)
 pub fn print_and_close(price: u32, desk: &mut Desk<'_>, report: &mut Report<'_>)
     requires fit { AllFit (contents desk.old) (page report.old) }
     requires fronts { let b = book_of (contents desk.old) in InFront price b.buys b.sells }
-    ensures came { let d = contents desk.old in let b = book_of d in ((n : ℕ) → Ready n d (length report.old.lines.now) report.old.written 0 → Comes n (moved (emptied (printed_at price b)) ((pairs price b.buys b.sells).trades ++ all_lapses (printed_at price b))) d (page report.old) (contents desk.new) (page report.new)) }
+    ensures came { let d = contents desk.old in
+        let b = book_of d in
+        ((n : ℕ) → Ready n d (length report.old.lines.now) report.old.written 0 → Comes n (moved (emptied (printed_at price b)) ((pairs price b.buys b.sells).trades ++ all_lapses (printed_at price b))) d (page report.old) (contents desk.new) (page report.new)) }
     ensures stops { desk.new.stops.now ≡ desk.old.stops.now }
     ensures kept { Kept desk.old report.old desk.new report.new }
 {

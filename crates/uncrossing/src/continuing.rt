@@ -19,7 +19,8 @@ use trading::Phase;
 // The VFU orders of the queues that are left lapse, and the book is in continuous trading.
 fn open_rest(met: Met, desk: &mut Desk<'_>, report: &mut Report<'_>)
     requires { RestFits met (contents desk.old) (page report.old) }
-    ensures came { let d = contents desk.old in ((n : ℕ) → d.state.buys ≤ n → d.state.sells ≤ n → d.state.stops ≤ length d.stops → Comes n (moved (without_vfu (book_from met d)) (vfu_lapses (book_from met d))) d (page report.old) (contents desk.new) (page report.new)) }
+    ensures came { let d = contents desk.old in
+        ((n : ℕ) → d.state.buys ≤ n → d.state.sells ≤ n → d.state.stops ≤ length d.stops → Comes n (moved (without_vfu (book_from met d)) (vfu_lapses (book_from met d))) d (page report.old) (contents desk.new) (page report.new)) }
     ensures fewer { FewerFrom met (contents desk.old) (page report.old) (contents desk.new) (page report.new) }
     ensures kept { Kept desk.old report.old desk.new report.new }
 {
@@ -31,7 +32,8 @@ fn open_rest(met: Met, desk: &mut Desk<'_>, report: &mut Report<'_>)
 // No price: the VFU orders lapse, and the book is in continuous trading.
 pub fn open_unprinted(desk: &mut Desk<'_>, report: &mut Report<'_>)
     requires { OrdersFit (contents desk.old) (page report.old) }
-    ensures came { let d = contents desk.old in ((n : ℕ) → Ready n d (length report.old.lines.now) report.old.written 0 → Comes n (moved (without_vfu (book_of d)) (vfu_lapses (book_of d))) d (page report.old) (contents desk.new) (page report.new)) }
+    ensures came { let d = contents desk.old in
+        ((n : ℕ) → Ready n d (length report.old.lines.now) report.old.written 0 → Comes n (moved (without_vfu (book_of d)) (vfu_lapses (book_of d))) d (page report.old) (contents desk.new) (page report.new)) }
     ensures fewer { Fewer (contents desk.old) (page report.old) (contents desk.new) (page report.new) }
     ensures kept { Kept desk.old report.old desk.new report.new }
 {
@@ -42,7 +44,9 @@ pub fn open_unprinted(desk: &mut Desk<'_>, report: &mut Report<'_>)
 pub fn print_and_open(price: u32, desk: &mut Desk<'_>, report: &mut Report<'_>)
     requires fit { OrdersFit (contents desk.old) (page report.old) }
     requires fronts { let b = book_of (contents desk.old) in InFront price b.buys b.sells }
-    ensures came { let d = contents desk.old in let b = book_of d in ((n : ℕ) → Ready n d (length report.old.lines.now) report.old.written 0 → Comes n (moved (without_vfu (printed_at price b)) ((pairs price b.buys b.sells).trades ++ vfu_lapses (printed_at price b))) d (page report.old) (contents desk.new) (page report.new)) }
+    ensures came { let d = contents desk.old in
+        let b = book_of d in
+        ((n : ℕ) → Ready n d (length report.old.lines.now) report.old.written 0 → Comes n (moved (without_vfu (printed_at price b)) ((pairs price b.buys b.sells).trades ++ vfu_lapses (printed_at price b))) d (page report.old) (contents desk.new) (page report.new)) }
     ensures fewer { Fewer (contents desk.old) (page report.old) (contents desk.new) (page report.new) }
     ensures kept { Kept desk.old report.old desk.new report.new }
 {

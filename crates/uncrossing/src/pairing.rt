@@ -21,7 +21,8 @@ pub struct Met {
 // The first buy and the first sell that are left, where both accept the price.
 fn next_pair(price: u32, met: Met, desk: &Desk<'_>) -> Option<(Order, Order)>
     requires { QueuesStart met (contents desk.now) }
-    ensures { let d = contents desk.now in NextPair price (span met.buys d.state.buys d.buys) (span met.sells d.state.sells d.sells) result }
+    ensures { let d = contents desk.now in
+        NextPair price (span met.buys d.state.buys d.buys) (span met.sells d.state.sells d.sells) result }
 {
     let buy = desk.buys[met.buys..desk.state.buys].first()?;
     let sell = desk.sells[met.sells..desk.state.sells].first()?;

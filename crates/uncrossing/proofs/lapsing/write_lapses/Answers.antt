@@ -1,4 +1,4 @@
-use Rattle.std.proofs.Common.{rules}
+use Rattle.std.proofs.Common.{arith, rules}
 use Rattle.lent.specs.Contents.{page}
 use Rattle.uncrossing.proofs.Written.{lapse_next, lapse_end}
 use Rattle.uncrossing.proofs.lapsing.write_lapses.Goals as goal
@@ -6,10 +6,10 @@ use Rattle.uncrossing.proofs.lapsing.write_lapses.Goals as goal
 pub loop-record-preserved : goal.loop-record-preserved
 loop-record-preserved g c =
     let l = c.loop-record in
-    let w = c.write.ensures in
-    (lapse_next g.R.Lapsing.lapse c.args.queue.now (page l.report) (page c.write.new.self) _ l.record-index c.record-item.result c.lapse_line.result c.loop-record-test.true c.record-item.is c.lapse_line.ensures w.line w.written l.invariant.0, search rules, search rules)
+    let w = c.write in
+    (lapse_next g.R.Lapsing.lapse c.args.queue.now l.record-index (page l.report) (page w.new.self) _ c.loop-record-test.true c.record-item.is c.lapse_line.ensures w.ensures.line w.ensures.written l.invariant.0, search rules, search rules)
 
 pub returns-clause-wrote : goal.returns-clause-wrote
 returns-clause-wrote g c =
     let l = c.loop-record in
-    lapse_end g.R.Lapsing.lapse c.args.queue.now (page c.args.report.now) (page l.report) l.record-index c.requires c.loop-record-test.false (search rules) l.invariant.1 l.invariant.0
+    lapse_end g.R.Lapsing.lapse c.args.queue.now l.record-index c.loop-record-test.false l.invariant.0 (omega (arith, l.report.within, l.invariant.2.lines_length))

@@ -1,5 +1,5 @@
-use Rattle.std.proofs.Common.{rules}
-use Rattle.lent.specs.Contents.{contents, page}
+use Rattle.std.proofs.Common.{arith, rules}
+use Rattle.lent.specs.Contents.{page}
 use Rattle.uncrossing.proofs.Turns.{turn, met_by}
 use Rattle.uncrossing.proofs.pairing.pair_all.Goals as goal
 
@@ -13,4 +13,4 @@ trades-preserved c =
 pub returns-clause-paired : goal.returns-clause-paired
 returns-clause-paired c =
     let l = c.trades in
-    met_by c.args.price (contents c.args.desk.now) (contents l.desk) (page c.args.report.now) (page l.report) l.met c.requires.fit c.in_default.ensures l.invariant.0
+    met_by (omega (arith, l.report.within, l.invariant.1.report.lines_length)) c.in_default.ensures l.invariant.0
