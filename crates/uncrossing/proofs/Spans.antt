@@ -1,6 +1,5 @@
 -- Parts of tables.
 use Rattle.std.proofs.Common.{◌≡◌, ℕ, suc, ◌+◌, ◌-◌, ◌<◌, ◌≤◌, List, [], ◌∷◌, length, get_or, take, drop, set, sym, ap, ◌∙◌, arith}
-use native.Mathlib.Nat.{sub-zero}
 use Rattle.std.proofs.lemmas.List.{drop_more, drop-set, drop-set-lt, drop-drop}
 use Rattle.uncrossing.specs.Spans.{span}
 
@@ -20,9 +19,6 @@ module _ {X : Type 0} where
 
   pub span_none : (xs : List X) (i n : ℕ) → n ≤ i → span i n xs ≡ []
   span_none xs i n h = let e : n - i ≡ 0 = omega arith in rw e
-
-  pub span_whole : (xs : List X) (n : ℕ) → span 0 n xs ≡ take n xs
-  span_whole xs n = rw sub-zero
 
   -- what lies past a place lies past a later one
   pub past_later : (xs ys : List X) (m n : ℕ) → m ≤ n → drop m xs ≡ drop m ys → drop n xs ≡ drop n ys
