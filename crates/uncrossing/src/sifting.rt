@@ -28,10 +28,10 @@ pub(crate) fn sift(orders: &mut [Order], from: usize, to: usize, report: &mut Re
         let order = orders[i];
         if is_vfu(&order) {
             report.write(order.lapse_line());
-            continue;
+        } else {
+            orders[count] = order;
+            count += 1;
         }
-        orders[count] = order;
-        count += 1;
     }
     count
 }
