@@ -14,16 +14,17 @@ module _ (a s : ℕ) (pos : 0 < s) where
       let e : a + (s - a % s) ≡ s * suc (a / s) = omega (arith, div-add-mod a s, mod-lt a pos, mul-suc s (a / s)) in
       rw e (mul-mod_right s (suc (a / s)))
 
-  pub down_last : (x : ℕ) → x ≤ a → x % s ≡ 0 → x ≤ a - a % s
-  down_last x le m =
-      ⊎_elim
-      (λ (h : a / s < x / s). omega (arith, div-add-mod a s, div-add-mod x s, mod-lt a pos, mul-suc s (a / s), mul-le-mul_left {m = suc (a / s)} {n = x / s} s (omega arith)))
-      (λ (h : x / s ≤ a / s). omega (arith, div-add-mod a s, div-add-mod x s, mul-le-mul_left {m = x / s} {n = a / s} s h))
-      (cases_lt (a / s) (x / s))
-
   pub up_first : (x : ℕ) → a < x → x % s ≡ 0 → a + (s - a % s) ≤ x
   up_first x lt m =
       ⊎_elim
       (λ (h : a / s < x / s). omega (arith, div-add-mod a s, div-add-mod x s, mod-lt a pos, mul-suc s (a / s), mul-le-mul_left {m = suc (a / s)} {n = x / s} s (omega arith)))
       (λ (h : x / s ≤ a / s). omega (arith, div-add-mod a s, div-add-mod x s, mul-le-mul_left {m = x / s} {n = a / s} s h))
       (cases_lt (a / s) (x / s))
+
+-- a multiple above the last one not above `a` would be above `a`
+pub down_last : (a s : ℕ) → 0 < s → (x : ℕ) → x ≤ a → x % s ≡ 0 → x ≤ a - a % s
+down_last a s pos x le m =
+    ⊎_elim
+    (λ (h : a - a % s < x). omega (arith, down_multiple a s pos, up_first (a - a % s) s pos x h m, mod-lt a pos))
+    (λ (h : x ≤ a - a % s). h)
+    (cases_lt (a - a % s) x)

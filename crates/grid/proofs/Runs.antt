@@ -1,8 +1,10 @@
 -- The lawful neighbours of a number on an even grid.
-use Rattle.std.proofs.Common.{◌≡◌, ℕ, ◌+◌, ◌-◌, ◌%◌, ◌<◌, ◌≤◌, arith}
+use Rattle.std.proofs.Common.{◌≡◌, ℕ, ◌+◌, ◌-◌, ◌%◌, ◌<◌, ◌≤◌, true, false, leb, refl, mod-lt, arith}
+use Rattle.std.specs.Bool.{then_some}
 use native.Mathlib.Nat.{mod-le}
+use Rattle.std.proofs.lemmas.Bool.{leb-true, leb-false}
 use Rattle.std.proofs.lemmas.Bool.Decides.{nat_tests}
-use Rattle.grid.specs.Neighbours.{Lawful}
+use Rattle.grid.specs.Neighbours.{Lawful, NextAbove}
 use Rattle.grid.specs.Steps.{on_steps}
 use Rattle.grid.proofs.Multiples.{down_multiple, up_multiple, down_last, up_first}
 
@@ -38,3 +40,10 @@ module _ (first step last : ℕ) (pos : 1 ≤ step) (p : ℕ) (from : first ≤ 
   up_next x h on =
       let o = on_told first step last x on in
       omega (arith, up_first (p - first) step pos (x - first) (omega arith) o.2)
+
+  -- the next price up, unless it is above the last
+  pub up_found : (q : ℕ) → q ≡ p + (step - (p - first) % step) → NextAbove (on_steps first step last) p (then_some (leb q last) q)
+  up_found q e = (elim (leb q last) as (λ b. leb q last ≡ b → NextAbove (on_steps first step last) p (then_some b q)) [
+    | true ↦ λ h. (omega (arith, mod-lt (p - first) pos), rw e (up_on (omega (arith, leb-true q last h))), λ x a b on. omega (arith, up_next x a on))
+    | false ↦ λ h x a on. omega (arith, leb-false q last h, on_told first step last x on, up_next x a on)
+  ]) refl

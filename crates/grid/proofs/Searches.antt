@@ -1,6 +1,6 @@
 -- The search for the neighbours of a number finds them, and each answer is the only one.
-use Rattle.std.proofs.Common.{◌≡◌, ℕ, zero, suc, ◌+◌, ◌-◌, ◌<◌, ◌≤◌, min, Bool, true, false, cond, Some, None, Ok, Err, Option, Result, sym, refl, ap, ◌∙◌, inl, inr, arith, MatchOption}
-use Rattle.std.proofs.lemmas.Bool.{both_ways, cases_eq, cases_order}
+use Rattle.std.proofs.Common.{◌≡◌, ◌≢◌, ℕ, zero, suc, ◌+◌, ◌-◌, ◌<◌, ◌≤◌, min, Bool, true, false, cond, Some, None, Ok, Err, Option, Result, sym, refl, ap, ◌∙◌, inl, inr, arith, MatchOption}
+use Rattle.std.proofs.lemmas.Bool.{both_ways, cases_order}
 use Rattle.grid.specs.Neighbours.{Lawful, NextAbove, NextBelow, Unlawful, Checked, first_above, first_below, next_above, next_below, fault_by, fault_at}
 use Rattle.grid.specs.declared.GridFault.{GridFault}
 use Rattle.grid.specs.declared.GridFault.TheVariants.{PastLast, BelowFirst, BetweenSteps}
@@ -9,6 +9,10 @@ use Rattle.grid.specs.declared.GridFault.TheVariants.{PastLast, BelowFirst, Betw
 abbrev pub Topped : (ℕ → Bool) → ℕ → Type 0
 Topped lawful top = (p : ℕ) → Lawful lawful p → p ≤ top
 
+-- a lawful number is no unlawful one
+apart : (lawful : ℕ → Bool) (p x : ℕ) → lawful p ≡ false → Lawful lawful x → x ≢ p
+apart lawful p x e l i = both_ways (lawful p) e (ap lawful (sym i) ∙ l)
+
 -- ---- above
 
 -- r is the next lawful price above p, or none of the n numbers above p is lawful
@@ -16,8 +20,8 @@ abbrev AboveWithin : (ℕ → Bool) → ℕ → ℕ → Option ℕ → Type 0
 AboveWithin lawful n p r = MatchOption r ((x : ℕ) → p < x → x ≤ p + n → Lawful lawful x → ⊥) (λ q. NextAbove lawful p (Some q))
 
 above_more : (lawful : ℕ → Bool) (n p : ℕ) → lawful (suc p) ≡ false → (r : Option ℕ) → AboveWithin lawful n (suc p) r → AboveWithin lawful (suc n) p r
-above_more lawful n p e None h = λ x a b l. elim (cases_eq x (suc p)) [ inl i ↦ both_ways (lawful (suc p)) e (ap lawful (sym i) ∙ l) | inr i ↦ h x (omega arith) (omega arith) l ]
-above_more lawful n p e (Some q) h = (omega (arith, h.0), h.1, λ x a b l. elim (cases_eq x (suc p)) [ inl i ↦ both_ways (lawful (suc p)) e (ap lawful (sym i) ∙ l) | inr i ↦ h.2 x (omega arith) b l ])
+above_more lawful n p e None h = λ x a b l. h x (omega (arith, apart lawful (suc p) x e l)) (omega arith) l
+above_more lawful n p e (Some q) h = (omega (arith, h.0), h.1, λ x a b l. h.2 x (omega (arith, apart lawful (suc p) x e l)) b l)
 
 first_above_lem : (lawful : ℕ → Bool) (n p : ℕ) → AboveWithin lawful n p (first_above lawful n p)
 unfolding first_above
@@ -47,8 +51,8 @@ above_one lawful p (Some c) (Some d) h k =
 -- ---- below
 
 below_more : (lawful : ℕ → Bool) (p : ℕ) → lawful p ≡ false → (r : Option ℕ) → NextBelow lawful p r → NextBelow lawful (suc p) r
-below_more lawful p e None h = λ x a l. elim (cases_eq x p) [ inl i ↦ both_ways (lawful p) e (ap lawful (sym i) ∙ l) | inr i ↦ h x (omega arith) l ]
-below_more lawful p e (Some q) h = (omega (arith, h.0), h.1, λ x a b l. elim (cases_eq x p) [ inl i ↦ both_ways (lawful p) e (ap lawful (sym i) ∙ l) | inr i ↦ h.2 x a (omega arith) l ])
+below_more lawful p e None h = λ x a l. h x (omega (arith, apart lawful p x e l)) l
+below_more lawful p e (Some q) h = (omega (arith, h.0), h.1, λ x a b l. h.2 x a (omega (arith, apart lawful p x e l)) l)
 
 first_below_lem : (lawful : ℕ → Bool) (p : ℕ) → NextBelow lawful p (first_below lawful p)
 unfolding first_below
@@ -79,8 +83,8 @@ below_one lawful p (Some c) (Some d) h k =
 
 -- an unlawful number has the fault that its neighbours tell
 told : (lawful : ℕ → Bool) (p : ℕ) → lawful p ≡ false → (a b : Option ℕ) → NextAbove lawful p a → NextBelow lawful p b → Unlawful lawful p (fault_by a b)
-told lawful p e None b up down = λ x h l. elim (cases_eq x p) [ inl i ↦ both_ways (lawful p) e (ap lawful (sym i) ∙ l) | inr i ↦ up x (omega arith) l ]
-told lawful p e (Some q) None up down = ((q, omega (arith, up.0), up.1), λ x h l. elim (cases_eq x p) [ inl i ↦ both_ways (lawful p) e (ap lawful (sym i) ∙ l) | inr i ↦ down x (omega arith) l ])
+told lawful p e None b up down = λ x h l. up x (omega (arith, apart lawful p x e l)) l
+told lawful p e (Some q) None up down = ((q, omega (arith, up.0), up.1), λ x h l. down x (omega (arith, apart lawful p x e l)) l)
 told lawful p e (Some q) (Some r) up down = ((q, omega (arith, up.0), up.1), (r, omega (arith, down.0), down.1), λ l. both_ways (lawful p) e l)
 
 pub fault_finds : (lawful : ℕ → Bool) (top : ℕ) → Topped lawful top → (p : ℕ) → MatchOption (fault_at lawful top p) (Lawful lawful p) (Unlawful lawful p)

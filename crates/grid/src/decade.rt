@@ -1,4 +1,4 @@
-// The decade grid: a lawful price is a multiple of its step, which is looked up by its number of digits.
+// The decade grid: a lawful price is a multiple of its step, and the more digits it has, the wider the step.
 ghost use Rattle.std.specs.Prelude.{◌≡◌, true};
 ghost use Rattle.grid.specs.Prices.{is_price};
 ghost use Rattle.grid.specs.Decades.{digits_of, step_of, on_decades};
@@ -6,36 +6,24 @@ ghost use Rattle.std.proofs.Common.{rules};
 
 use crate::PriceGrid;
 
-// The step of a price of one digit, of two, and so on.
-const STEPS: [u32; 8] = [1, 1, 1, 1, 10, 100, 1_000, 10_000];
-
 // The last lawful price.
 const LAST: u32 = 99_990_000;
 
 #[derive(Clone, Copy)]
 pub struct DecadeGrid;
 
-fn digits(p: u32) -> usize
-    requires { is_price p ≡ true }
-    ensures { result ≡ digits_of p }
-{
-    match p {
-        0..=9 => 1,
-        10..=99 => 2,
-        100..=999 => 3,
-        1_000..=9_999 => 4,
-        10_000..=99_999 => 5,
-        100_000..=999_999 => 6,
-        1_000_000..=9_999_999 => 7,
-        _ => 8,
-    }
-}
-
+// The step of a price: 1 up to four digits, then one nought more with each digit.
 fn step_at(p: u32) -> u32
     requires { is_price p ≡ true }
     ensures { result ≡ step_of (digits_of p) }
 {
-    STEPS[digits(p) - 1]
+    match p {
+        0..=9_999 => 1,
+        10_000..=99_999 => 10,
+        100_000..=999_999 => 100,
+        1_000_000..=9_999_999 => 1_000,
+        _ => 10_000,
+    }
 }
 
 impl PriceGrid for DecadeGrid {

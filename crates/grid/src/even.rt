@@ -49,14 +49,9 @@ impl PriceGrid for EvenGrid {
         if p < self.first {
             return Some(self.first);
         }
-        if p >= self.last {
-            return None;
-        }
         let rise = self.step - (p - self.first) % self.step;
-        if rise > self.last - p {
-            return None;
-        }
-        Some(p + rise)
+        let next = p.checked_add(rise)?;
+        (next <= self.last).then_some(next)
     }
 
     fn below(&self, p: u32) -> Option<u32> {

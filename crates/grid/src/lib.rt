@@ -40,13 +40,11 @@ pub trait PriceGrid {
         if p > 0 && self.above(p - 1) == Some(p) {
             return Ok(());
         }
-        if self.above(p).is_none() {
-            return Err(GridFault::PastLast);
+        match (self.above(p), self.below(p)) {
+            (None, _) => Err(GridFault::PastLast),
+            (Some(_), None) => Err(GridFault::BelowFirst),
+            (Some(_), Some(_)) => Err(GridFault::BetweenSteps),
         }
-        if self.below(p).is_none() {
-            return Err(GridFault::BelowFirst);
-        }
-        Err(GridFault::BetweenSteps)
     }
 
     // The next lawful price above a number.

@@ -9,5 +9,5 @@ pub const TOP_PRICE: u32 = 99_999_999;
 pub fn is_price(p: u32) -> bool
     ensures { result ≡ is_price p }
 {
-    1 <= p && p <= TOP_PRICE
+    (1..=TOP_PRICE).contains(&p)
 }
