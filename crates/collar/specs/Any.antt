@@ -6,6 +6,6 @@ use Rattle.collar.specs.declared.any.AnyCollar.TheVariants.{Band, AroundLast, St
 
 abbrev pub allows_any : AnyCollar → ℕ → ℕ → ℕ → Bool
 allows_any (Band b) s last p = in_band b.low b.high p
-allows_any (AroundLast a) s last p = within a.k last p
-allows_any (StaticBand c) s last p = within c.k s p && in_band c.inner.low c.inner.high p
-allows_any (StaticLast c) s last p = within c.k s p && within c.inner.k last p
+allows_any (AroundLast a) s last p = within a.factor.k last p
+allows_any (StaticBand c) s last p = within c.factor.k s p && in_band c.inner.low c.inner.high p
+allows_any (StaticLast c) s last p = within c.factor.k s p && within c.inner.factor.k last p

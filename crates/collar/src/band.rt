@@ -47,6 +47,6 @@ impl Collar for FixedBand {
     ghost allows = { λ b _ _ p. in_band b.low b.high p };
 
     fn is_allowed(&self, static_price: u32, last: u32, price: u32) -> bool {
-        self.low <= price && price <= self.high
+        (self.low..=self.high).contains(&price)
     }
 }

@@ -5,8 +5,8 @@
 ghost use Rattle.std.specs.Prelude.{◌≡◌, ℕ, Bool};
 
 mod any;
-mod around;
 mod band;
+mod factor;
 mod last;
 mod over;
 
