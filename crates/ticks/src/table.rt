@@ -1,6 +1,7 @@
 // A tick table: 1 to 32 rows, each with a start and a step of its own; the last row ends at the end price, and past it
 // there is no price.
 ghost use Rattle.std.specs.Prelude.{◌≡◌, ℕ, ◌-◌, ◌<◌, ◌≤◌, length, Some, None, MatchResult};
+ghost use Rattle.std.specs.Result.{result_err};
 ghost use Rattle.grid.specs.Neighbours.{Lawful};
 ghost use Rattle.ticks.specs.Rows.{row_at, start_at, step_at, last_at, on_rows, Rising, Stepped};
 ghost use Rattle.ticks.specs.Setup.{row_fault, table_fault};
@@ -10,6 +11,7 @@ mod lawful;
 use crate::{TableFault, TickRow};
 use grid::{EvenGrid, is_price};
 
+// The rows stand in a fixed array with their number beside it, so that a table is copied freely and takes no heap.
 #[derive(Clone, Copy)]
 pub struct TickTable {
     rows: [TickRow; 32],
@@ -24,29 +26,29 @@ pub struct TickTable {
     ghost high: { end ≤ 99999999 },
 }
 
-// The fault of the first row that has one.
-fn first_row_fault(rows: &[TickRow]) -> Option<TableFault>
-    ensures { result ≡ row_fault 0 0 rows.now }
+// Whether each row is sound and starts above the one before it, and if not, why the first that fails does.
+fn check_rows(rows: &[TickRow]) -> Result<(), TableFault>
+    ensures { result_err result ≡ row_fault 0 0 rows.now }
 {
     let mut before = 0;
     for (i, row) in rows.iter().enumerate() {
         if !is_price(row.start) {
-            return Some(TableFault::StartNotPrice(i));
+            return Err(TableFault::StartNotPrice(i));
         }
         if row.step == 0 {
-            return Some(TableFault::RowZeroStep(i));
+            return Err(TableFault::RowZeroStep(i));
         }
         if row.start <= before {
-            return Some(TableFault::StartNotRising(i));
+            return Err(TableFault::StartNotRising(i));
         }
         before = row.start;
     }
-    None
+    Ok(())
 }
 
 // Whether the rows and the end price make a table, and if not, why.
 fn validate(rows: &[TickRow], end: u32) -> Result<(), TableFault>
-    ensures { MatchResult result (λ _. table_fault rows.now end ≡ None) (λ f. table_fault rows.now end ≡ Some f) }
+    ensures { result_err result ≡ table_fault rows.now end }
 {
     if rows.is_empty() {
         return Err(TableFault::NoRows);
@@ -54,9 +56,7 @@ fn validate(rows: &[TickRow], end: u32) -> Result<(), TableFault>
     if rows.len() > 32 {
         return Err(TableFault::TooManyRows);
     }
-    if let Some(fault) = first_row_fault(rows) {
-        return Err(fault);
-    }
+    check_rows(rows)?;
     if !is_price(end) {
         return Err(TableFault::EndNotPrice);
     }
@@ -72,9 +72,7 @@ fn placed(rows: &[TickRow]) -> [TickRow; 32]
     ensures { (i : ℕ) → i < length rows.now → row_at result i ≡ row_at rows.now i }
 {
     let mut table = [TickRow { start: 0, step: 0 }; 32];
-    for (i, row) in rows.iter().enumerate() {
-        table[i] = *row;
-    }
+    table[..rows.len()].copy_from_slice(rows);
     table
 }
 
@@ -114,10 +112,11 @@ impl TickTable {
         ensures step { result.step ≡ step_at self.now.rows i }
         ensures last { result.last ≡ last_at self.now.rows self.now.count self.now.end i }
     {
-        match EvenGrid::new(self.rows[i].start, self.rows[i].step, self.row_end(i)) {
-            Ok(row) => row,
+        let TickRow { start, step } = self.rows[i];
+        let Ok(row) = EvenGrid::new(start, step, self.row_end(i)) else {
             // the table's shape rules this out
-            Err(_) => unreachable(),
-        }
+            unreachable!()
+        };
+        row
     }
 }

@@ -11,22 +11,10 @@ impl PriceGrid for TickTable {
     ghost priced = { lawful_price };
 
     fn above(&self, p: u32) -> Option<u32> {
-        for i in 0..self.count {
-            let next = self.row(i).above(p);
-            if next.is_some() {
-                return next;
-            }
-        }
-        None
+        (0..self.count).find_map(|i| self.row(i).above(p))
     }
 
     fn below(&self, p: u32) -> Option<u32> {
-        for i in (0..self.count).rev() {
-            let next = self.row(i).below(p);
-            if next.is_some() {
-                return next;
-            }
-        }
-        None
+        (0..self.count).rev().find_map(|i| self.row(i).below(p))
     }
 }

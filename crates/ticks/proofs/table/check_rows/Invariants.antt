@@ -1,6 +1,6 @@
 use Rattle.std.proofs.Common.{◌≡◌, drop}
 use Rattle.ticks.specs.Setup.{row_fault}
-use Rattle.ticks.proofs.table.first_row_fault.Given as goal
+use Rattle.ticks.proofs.table.check_rows.Given as goal
 
 -- the rows that are left have the fault that all of them have
 abbrev pub invariant-loop-i : goal.invariant-loop-i

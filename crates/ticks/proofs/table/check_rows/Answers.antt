@@ -1,6 +1,6 @@
 use Rattle.std.proofs.Common.{arith}
 use Rattle.ticks.proofs.Accepted.{row_not_price, row_no_step, row_not_above, row_fine, row_none}
-use Rattle.ticks.proofs.table.first_row_fault.Goals as goal
+use Rattle.ticks.proofs.table.check_rows.Goals as goal
 
 pub returns-then-not-is_price : goal.returns-then-not-is_price
 returns-then-not-is_price c =
