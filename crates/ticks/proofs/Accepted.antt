@@ -93,3 +93,6 @@ placed rows table end w same =
       low = omega (arith, start 0 w.some, w.sound.above w.some);
       closed = omega (arith, start (length rows - 1) (omega (arith, w.some)), w.closed);
     }
+
+-- what the rows from row i on come to, by row i
+pub ruleset row_faults = (row_not_price, row_no_step, row_not_above, row_fine, row_none)

@@ -50,8 +50,8 @@ module _ {F B : Type 0} {g : Mut F (ℕ × Unit {0}) (Option B)} {f : F} (Gives 
           omega (arith, h.1),
           gives (n - 1 - h.0) (Some y) (and_at (p.at h.0) (n - 1 - h.0) (λ x. Called g f (x, tt) (Some y) f) (at h.0 h.1) z.0),
           λ k b l.
-          let e : n - 1 - (n - 1 - k) ≡ k = omega arith in
-          gives k None (and_at (p.at (n - 1 - k)) k (λ x. Called g f (x, tt) None f) (at (n - 1 - k) (omega (arith, h.1)) ∙ ap Some e) (z.1 (n - 1 - k) (omega (arith, h.1)))),
+              let e : n - 1 - (n - 1 - k) ≡ k = omega arith in
+              gives k None (and_at (p.at (n - 1 - k)) k (λ x. Called g f (x, tt) None f) (at (n - 1 - k) (omega (arith, h.1)) ∙ ap Some e) (z.1 (n - 1 - k) (omega (arith, h.1)))),
         )
 
   pub first_up : (r : Option B) → SomeRun nat_range_steps (record { start = 0; end = n }) (λ p. Stops g f r p) → Found (λ k i. k < i) Gives n r

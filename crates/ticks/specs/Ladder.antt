@@ -1,10 +1,10 @@
 -- Rows whose starts rise: each ends below the next, and all of them are prices.
-use Rattle.std.specs.Prelude.{◌≡◌, ℕ, zero, suc, ◌+◌, ◌-◌, ◌<◌, ◌≤◌, Bool, true, false, cond, List, is_some, Some, None, Option, ◌≢◌, nat_lt}
+use Rattle.std.specs.Prelude.{◌≡◌, ℕ, zero, suc, ◌+◌, ◌-◌, ◌<◌, ◌≤◌, Bool, true, cond, List, Some, None, Option, ◌≢◌, nat_lt}
 use Rattle.std.proofs.Math.Path.{refl}
-use Rattle.std.proofs.Common.{ap, subst, ◌∙◌, ⊎_elim, add-one, arith}
-use Rattle.std.proofs.lemmas.Bool.{cases_lt, cases_order, true≢false, false≢true}
+use Rattle.std.proofs.Common.{ap, ◌∙◌, ⊎_elim, add-one, arith}
+use Rattle.std.proofs.lemmas.Bool.{cases_lt}
 use Rattle.std.proofs.lemmas.Bool.Decides.{nat_tests, Decides-below_or}
-use Rattle.grid.specs.Neighbours.{Lawful, NextAbove, NextBelow}
+use Rattle.grid.specs.Neighbours.{Lawful}
 use Rattle.grid.specs.Steps.{on_steps}
 use Rattle.grid.specs.Setup.{even_fault}
 use Rattle.grid.specs.declared.setup.EvenFault.{EvenFault}

@@ -27,6 +27,7 @@ pub struct TickTable {
 }
 
 // Whether each row is sound and starts above the one before it, and if not, why the first that fails does.
+#[tactic(auto, using(crate::proofs::Accepted::row_faults))]
 fn check_rows(rows: &[TickRow]) -> Result<(), TableFault>
     ensures { result_err result ≡ row_fault 0 0 rows.now }
 {
