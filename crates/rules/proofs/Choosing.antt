@@ -44,8 +44,8 @@ best_from_is Q a w (p ∷ ps) h k = best_from_is Q a (better_of a w p) ps (cond_
 -- ---- what holds of every candidate holds at and beside every anchor
 
 with_some_all : (Q : ℕ → Type 0) (o : Option ℕ) (ps : List ℕ) → AllByRecursion Q (with_some o ps) → ((c : ℕ) → o ≡ Some c → Q c) × AllByRecursion Q ps
-with_some_all Q None ps k = ((λ c e. absurd (let z : ◌≡◌ {A = ℕ} 0 1 = cc in omega arith)), k)
-with_some_all Q (Some p) ps k = ((λ c e. (let i : p ≡ c = cc in subst Q i k.0)), k.1)
+with_some_all Q None ps k = ((λ c e. absurd (cc)), k)
+with_some_all Q (Some p) ps k = ((λ c e. subst Q (cc) k.0), k.1)
 
 all_with_some : (Q : ℕ → Type 0) (o : Option ℕ) (ps : List ℕ) → ((c : ℕ) → o ≡ Some c → Q c) → AllByRecursion Q ps → AllByRecursion Q (with_some o ps)
 all_with_some Q None ps h k = k
@@ -54,7 +54,7 @@ all_with_some Q (Some p) ps h k = (h p refl, k)
 with_lawful_all : (Q : ℕ → Type 0) (g : Grid) (p : ℕ) (ps : List ℕ) → AllByRecursion Q (with_lawful g p ps) → (Lawful g.lawful p → Q p) × AllByRecursion Q ps
 with_lawful_all Q g p ps k = (elim (g.lawful p) as (λ v. AllByRecursion Q (cond v (p ∷ ps) ps) → (v ≡ true → Q p) × AllByRecursion Q ps) [
   | true ↦ λ k. (λ _. k.0, k.1)
-  | false ↦ λ k. (λ e. absurd (let z : ◌≡◌ {A = ℕ} 0 1 = cc in omega arith), k)
+  | false ↦ λ k. (λ e. absurd (cc), k)
 ]) k
 
 module _ (Q : ℕ → Type 0) (g : Grid) where
@@ -72,7 +72,7 @@ module _ (Q : ℕ → Type 0) (g : Grid) where
   unfolding around_limits
   around_limits_all [] ps k = (tt, k)
   around_limits_all (o ∷ os) ps k = (elim (eqb o.limit 0) as (λ v. eqb o.limit 0 ≡ v → AllByRecursion Q (cond v (around_limits g os ps) (around g o.limit (around_limits g os ps))) → AllByRecursion (AtLimit Beside) (o ∷ os) × AllByRecursion Q ps) [
-    | true ↦ λ e k. (let i = around_limits_all os ps k in ((λ h. absurd (let z = eqb-true o.limit 0 e in omega arith), i.0), i.1))
+    | true ↦ λ e k. (let i = around_limits_all os ps k in ((λ h. absurd (omega (arith, eqb-true o.limit 0 e)), i.0), i.1))
     | false ↦ λ e k. (let n = around_all o.limit (around_limits g os ps) k in let i = around_limits_all os ps n.1 in ((λ _. n.0, i.0), i.1))
   ]) refl k
 

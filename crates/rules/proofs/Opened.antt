@@ -8,15 +8,15 @@ use Rattle.rules.specs.Auctions.{Auction, volume}
 use Rattle.rules.specs.Candidates.{Grid, best}
 use Rattle.rules.specs.Openings.{opening_at, opening}
 use Rattle.rules.specs.Winners.{Winner, NothingExecutes, PriceLaw}
-use Rattle.rules.proofs.Beating.{AsGood, as_good_both, as_good_volume, loses, beats_from}
+use Rattle.rules.proofs.Beating.{AsGood, as_good_both, as_good_volume}
 use Rattle.rules.proofs.Reaching.{Best}
 use Rattle.rules.proofs.Choosing.{Topped, BestOrNone, best_is}
 
 pub best_wins : (lawful : ℕ → Bool) (a : Auction) (w : ℕ) → Best lawful a w → Winner lawful a w
-best_wins lawful a w h = record { is_lawful = h.is_lawful; wins = λ q l n. elim (h.tops q l) [ inl e ↦ absurd (n e) | inr k ↦ loses a w q k ] }
+best_wins lawful a w h = record { is_lawful = h.is_lawful; wins = λ q l n. grind (arith, h.tops q l) }
 
 winner_good : (lawful : ℕ → Bool) (a : Auction) (v q : ℕ) → Winner lawful a v → Lawful lawful q → AsGood a v q
-winner_good lawful a v q h l = elim (Rattle.std.proofs.lemmas.Bool.cases_eq q v) [ inl e ↦ inl e | inr n ↦ inr (beats_from a v q (h.wins q l n)) ]
+winner_good lawful a v q h l = grind (arith, h.wins q l)
 
 only_one : (lawful : ℕ → Bool) (a : Auction) (w : ℕ) → Best lawful a w → (v : ℕ) → Winner lawful a v → v ≡ w
 only_one lawful a w h v k = as_good_both a v w (winner_good lawful a v w k h.is_lawful) (h.tops v k.is_lawful)
@@ -33,8 +33,8 @@ module _ (lawful : ℕ → Bool) (allows : ℕ → ℕ → ℕ → Bool) (static
   something w r h pos yes' no' = record {
     none = λ n. absurd (omega (arith, n w h.is_lawful));
     only_none = λ e. absurd (elim (cases_Bool (allows static a.last w)) [
-      | inl t ↦ (let i = yes' t in let z : ◌≡◌ {A = ℕ} 0 1 = cc in omega arith)
-      | inr f ↦ (let i = no' f in let z : ◌≡◌ {A = ℕ} 0 1 = cc in omega arith)
+      | inl t ↦ cc (yes' t)
+      | inr f ↦ cc (no' f)
     ]);
     some = λ _. record { price = w; winner = best_wins lawful a w h; only = only_one lawful a w h; executes = pos; printed = yes'; refused = no' };
   }

@@ -3,6 +3,7 @@ ghost use Rattle.std.specs.Prelude.{◌≡◌, Some};
 ghost use Rattle.rules.specs.Outranks.{outranks};
 ghost use Rattle.rules.specs.Printed.{outcome_line};
 
+use std::cmp::Reverse;
 use std::fmt;
 
 // A price with what it executes: the volume, and the surplus that it leaves on one side.
@@ -18,18 +19,16 @@ impl Score {
     pub fn outranks(&self, other: &Score, last: u32) -> bool
         ensures { result ≡ outranks last self.now other.now }
     {
-        if self.volume != other.volume {
-            return self.volume > other.volume;
-        }
-        if self.surplus != other.surplus {
-            return self.surplus < other.surplus;
-        }
-        let distance = self.price.abs_diff(last);
-        let other_distance = other.price.abs_diff(last);
-        if distance != other_distance {
-            return distance < other_distance;
-        }
-        self.price > other.price
+        let rank = |score: &Score| {
+            let distance = score.price.abs_diff(last);
+            (
+                score.volume,
+                Reverse(score.surplus),
+                Reverse(distance),
+                score.price,
+            )
+        };
+        rank(self) > rank(other)
     }
 }
 

@@ -26,6 +26,7 @@ pub struct Order {
     pub validity: Validity,
 }
 
+// The two sides differ only in the direction of a comparison; one function for both would have to ask for the side first.
 impl Order {
     // Whether the order, standing among the buys, accepts a price: it is a market order, or limited at or above the price.
     pub fn accepts_buying(&self, price: u32) -> bool
