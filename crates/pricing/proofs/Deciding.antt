@@ -15,8 +15,10 @@ module _ (lawful : ℕ → Bool) (allows : ℕ → ℕ → ℕ → Bool) (static
   decides None = refl
   decides (Some p) = refl
 
-  pub is_opening : (w : Option Score) (r : Opening) → w ≡ scored a (best (grid_of lawful) a) → r ≡ decided allows static a.last w → r ≡ opening (grid_of lawful) allows static a
-  is_opening w r e d = d ∙ (ap (decided allows static a.last) e ∙ decides (best (grid_of lawful) a))
+  pub is_opening : (b : Auction) (w : Option Score) (r : Opening) → b ≡ a → w ≡ scored b (best (grid_of lawful) b) → r ≡ decided allows static a.last w → r ≡ opening (grid_of lawful) allows static a
+  is_opening b w r i e d =
+      let found : w ≡ scored a (best (grid_of lawful) a) = subst (λ x. w ≡ scored x (best (grid_of lawful) x)) i e in
+      d ∙ (ap (decided allows static a.last) found ∙ decides (best (grid_of lawful) a))
 
   pub keeps_law : Priced lawful → (r : Opening) → r ≡ opening (grid_of lawful) allows static a → PriceLaw lawful allows static a r
   keeps_law priced r e = subst (PriceLaw lawful allows static a) (sym e) (opening_lawful (grid_of lawful) (λ p l. (priced p l).1) allows static a)

@@ -1,6 +1,7 @@
 -- The limits of a list of orders are tried one after another; in the end the best lawful price is found.
 use Rattle.std.proofs.Common.{◌≡◌, ℕ, ◌+◌, ◌<◌, Bool, ◌⊎◌, List, length, get_or, take, Some, None, Option, sym, ap, ◌∙◌, subst, inl, inr, arith}
 use Rattle.std.specs.List.{AllByRecursion}
+use Rattle.std.specs.Option.{IfSome}
 use Rattle.std.proofs.ByRecursion.{All-weaker, All-more}
 use Rattle.grid.specs.Neighbours.{Lawful, Priced, NextAbove, NextBelow}
 use Rattle.rules.specs.declared.order.Order.{Order}
@@ -18,11 +19,11 @@ module _ (lawful : ℕ → Bool) (a : Auction) where
   limits_kept : (old new : Option Score) (os : List Order) → ((c : ℕ) → Covers lawful a old c → Covers lawful a new c) → AllByRecursion (LimitTried lawful a old) os → AllByRecursion (LimitTried lawful a new) os
   limits_kept old new os keeps = All-weaker (LimitTried lawful a old) (LimitTried lawful a new) (λ o d h c b. keeps c (d h c b)) os
 
-  module _ (old r : Option Score) (t : ℕ) (os : List Order) (i : ℕ) (within : i < length os) (s : SoFar lawful a old r t (take i os)) where
+  module _ (old r : Option Score) (t : Option ℕ) (os : List Order) (i : ℕ) (within : i < length os) (s : SoFar lawful a old r t (take i os)) where
     -- an order more whose limit was tried
-    pub one_tried : (new : Option Score) (t' : ℕ) → t' ≡ (get_or os i blank).limit → Tried lawful a r new (Beside lawful (get_or os i blank).limit) → SoFar lawful a old new t' (take (i + 1) os)
+    pub one_tried : (new : Option Score) (t' : Option ℕ) → t' ≡ Some (get_or os i blank).limit → Tried lawful a r new (Beside lawful (get_or os i blank).limit) → SoFar lawful a old new t' (take (i + 1) os)
     one_tried new t' e h = record {
-      around = λ _. subst (AroundTried lawful a new) (sym e) h.adds;
+      around = subst (λ o. IfSome o (AroundTried lawful a new)) (sym e) h.adds;
       limits = record {
         found = h.found;
         keeps = λ c k. h.keeps c (s.limits.keeps c k);
@@ -31,15 +32,15 @@ module _ (lawful : ℕ → Bool) (a : Auction) where
     }
 
     -- an order more that is a market order, or has the limit that was tried last
-    pub one_skipped : ((get_or os i blank).limit ≡ 0) ⊎ ((get_or os i blank).limit ≡ t) → SoFar lawful a old r t (take (i + 1) os)
+    pub one_skipped : ((get_or os i blank).limit ≡ 0) ⊎ (t ≡ Some (get_or os i blank).limit) → SoFar lawful a old r t (take (i + 1) os)
     one_skipped e = record {
       around = s.around;
       limits = record { found = s.limits.found; keeps = s.limits.keeps; limits = All-more (LimitTried lawful a r) os i blank within s.limits.limits (here e) };
     }
       where
-        here : ((get_or os i blank).limit ≡ 0) ⊎ ((get_or os i blank).limit ≡ t) → LimitTried lawful a r (get_or os i blank)
+        here : ((get_or os i blank).limit ≡ 0) ⊎ (t ≡ Some (get_or os i blank).limit) → LimitTried lawful a r (get_or os i blank)
         here (inl z) = λ h. absurd (omega (arith, h, z))
-        here (inr z) = λ h. subst (AroundTried lawful a r) (sym z) (s.around (omega (arith, h, z)))
+        here (inr z) = λ _. subst (λ o. IfSome o (AroundTried lawful a r)) z s.around
 
   -- ---- the whole search
 

@@ -30,7 +30,7 @@ module _ (lawful : ℕ → Bool) (a : Auction) where
   tried_none : (old : Option Score) (P : ℕ → Type 0) → Found lawful a old → ((c : ℕ) → P c → Covers lawful a old c) → Tried lawful a old old P
   tried_none old P f h = record { found = f; keeps = λ c k. k; adds = h }
 
-  tried_one : (old : Option Score) (p : ℕ) → Lawful lawful p → Found lawful a old → Tried lawful a old (chosen a.last old (score_of a p)) (λ c. c ≡ p)
+  tried_one : (old : Option Score) (p : ℕ) → Lawful lawful p → Found lawful a old → Tried lawful a old (chosen a old (score_of a p)) (λ c. c ≡ p)
   tried_one None p l f = record { found = (l, refl); keeps = λ c k lc. absurd (k lc); adds = λ c e lc. inl e }
   tried_one (Some w) p l f =
       cond_both (outranks a.last (score_of a p) w) (Some (score_of a p)) (Some w) (λ r. Tried lawful a (Some w) r (λ c. c ≡ p))
@@ -45,13 +45,13 @@ module _ (lawful : ℕ → Bool) (a : Auction) where
         adds = λ c e lc. subst (λ v. (v ≡ w.price) ⊎ LosesTo a w.price v) (sym e) (covered a w.price p b);
       })
 
-  tried_of : (old : Option Score) (o : Option ℕ) → ((p : ℕ) → o ≡ Some p → Lawful lawful p) → Found lawful a old → Tried lawful a old (chosen_of a.last old a.buys a.sells o) (λ c. o ≡ Some c)
+  tried_of : (old : Option Score) (o : Option ℕ) → ((p : ℕ) → o ≡ Some p → Lawful lawful p) → Found lawful a old → Tried lawful a old (chosen_of a old o) (λ c. o ≡ Some c)
   tried_of old None l f = tried_none old (λ c. None ≡ Some c) f (λ c e. absurd (let z : ◌≡◌ {A = ℕ} 0 1 = cc in omega arith))
   tried_of old (Some p) l f = let t = tried_one old p (l p refl) f in record { found = t.found; keeps = t.keeps; adds = λ c e. t.adds c (let i : c ≡ p = cc in i) }
 
   -- a number, so far as lawful, then its neighbours
   pub around_tried : (old r1 r2 r3 : Option Score) (x : ℕ) (here up down : Option ℕ) → here ≡ cond (lawful x) (Some x) None → NextAbove lawful x up → NextBelow lawful x down
-      → r1 ≡ chosen_of a.last old a.buys a.sells here → r2 ≡ chosen_of a.last r1 a.buys a.sells up → r3 ≡ chosen_of a.last r2 a.buys a.sells down
+      → r1 ≡ chosen_of a old here → r2 ≡ chosen_of a r1 up → r3 ≡ chosen_of a r2 down
       → Found lawful a old → Tried lawful a old r3 (Beside lawful x)
   around_tried old r1 r2 r3 x here up down e u d i1 i2 i3 f =
       let t1 = subst (λ r. Tried lawful a old r (λ c. here ≡ Some c)) (sym i1) (tried_of old here lawful_here f) in

@@ -1,23 +1,14 @@
 -- Prices are tried one after another: the best found so far covers all that were tried.
-use Rattle.std.specs.Prelude.{◌≡◌, ℕ, ◌<◌, min, Bool, cond, ◌⊎◌, List, IfSome, Some, None, Option, MatchOption, ◌==◌}
+use Rattle.std.specs.Prelude.{◌≡◌, ℕ, ◌<◌, Bool, cond, ◌⊎◌, List, IfSome, Some, None, Option, MatchOption, ◌==◌}
 use Rattle.std.specs.List.{AllByRecursion}
 use Rattle.grid.specs.Neighbours.{Lawful, NextAbove, NextBelow}
 use Rattle.rules.specs.declared.order.Order.{Order}
 use Rattle.rules.specs.declared.opening.Score.{Score}
 use Rattle.rules.specs.declared.opening.Opening.{Opening}
 use Rattle.rules.specs.declared.opening.Opening.TheVariants.{NoPrice, Printed, RefusedByCollar}
-use Rattle.grid.specs.Prices.{distance}
 use Rattle.rules.specs.Outranks.{outranks}
-use Rattle.rules.specs.Auctions.{Auction, buy_total, sell_total, score_of}
+use Rattle.rules.specs.Auctions.{Auction, score_of}
 use Rattle.rules.specs.Winners.{LosesTo}
-
--- what p executes, by the orders alone
-abbrev pub score_by : List Order → List Order → ℕ → Score
-score_by buys sells p = record {
-  price = p;
-  volume = min (buy_total buys p) (sell_total sells p);
-  surplus = distance (buy_total buys p) (sell_total sells p);
-}
 
 -- the score of a price, if there is one
 abbrev pub scored : Auction → Option ℕ → Option Score
@@ -37,14 +28,14 @@ abbrev pub Covers : (ℕ → Bool) → Auction → Option Score → ℕ → Type
 Covers lawful a r c = MatchOption r (Lawful lawful c → ⊥) (λ w. Lawful lawful c → (c ≡ w.price) ⊎ LosesTo a w.price c)
 
 -- what is better of the best so far and one price more
-abbrev pub chosen : ℕ → Option Score → Score → Option Score
-chosen last None s = Some s
-chosen last (Some w) s = cond (outranks last s w) (Some s) (Some w)
+abbrev pub chosen : Auction → Option Score → Score → Option Score
+chosen a None s = Some s
+chosen a (Some w) s = cond (outranks a.last s w) (Some s) (Some w)
 
 -- the same, if there is one price more
-abbrev pub chosen_of : ℕ → Option Score → List Order → List Order → Option ℕ → Option Score
-chosen_of last best buys sells None = best
-chosen_of last best buys sells (Some p) = chosen last best (score_by buys sells p)
+abbrev pub chosen_of : Auction → Option Score → Option ℕ → Option Score
+chosen_of a best None = best
+chosen_of a best (Some p) = chosen a best (score_of a p)
 
 -- from old to new nothing that was covered is lost, and every price of P is covered
 pub record Tried (lawful : ℕ → Bool) (a : Auction) (old new : Option Score) (P : ℕ → Type 0) : Type 0 where
@@ -67,8 +58,8 @@ pub record LimitsTried (lawful : ℕ → Bool) (a : Auction) (old new : Option S
   pub limits : AllByRecursion (LimitTried lawful a new) orders
 
 -- midway in a list of orders: the limits so far are covered, and what is at and beside the limit tried last
-pub record SoFar (lawful : ℕ → Bool) (a : Auction) (old new : Option Score) (tried : ℕ) (orders : List Order) : Type 0 where
-  pub around : 0 < tried → AroundTried lawful a new tried
+pub record SoFar (lawful : ℕ → Bool) (a : Auction) (old new : Option Score) (tried : Option ℕ) (orders : List Order) : Type 0 where
+  pub around : IfSome tried (AroundTried lawful a new)
   pub limits : LimitsTried lawful a old new orders
 
 -- what the best price comes to: nothing executes, or the collar is asked

@@ -2,8 +2,10 @@
 
 #![tactic(auto)]
 
+mod auction;
 mod best;
 mod opening;
 mod totals;
 
-pub use opening::{MAX_ORDERS, TooManyOrders, opening_price};
+pub use auction::{MAX_ORDERS, TooManyOrders};
+pub use opening::opening_price;

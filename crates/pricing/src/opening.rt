@@ -7,34 +7,27 @@ ghost use Rattle.rules.specs.Winners.{PriceLaw};
 ghost use Rattle.pricing.specs.Few.{Few};
 ghost use Rattle.pricing.specs.Trials.{decided};
 
-use crate::best::best_price;
+use crate::auction::{CallAuction, TooManyOrders};
 use collar::Collar;
 use grid::PriceGrid;
 use rules::{Opening, Order, Score};
-
-// How many orders an auction takes on each side.
-pub const MAX_ORDERS: usize = 4_096;
-
-// A side has more orders than an auction takes.
-#[derive(Clone, Copy)]
-pub struct TooManyOrders;
 
 // What the best price comes to: nothing executes, or the collar is asked.
 fn decide<C: Collar>(collar: &C, static_price: u32, last: u32, best: Option<Score>) -> Opening
     ensures { result ≡ decided (C.allows collar.now) static_price last best }
 {
-    let Some(best) = best else {
-        return Opening::NoPrice;
-    };
-    if best.volume == 0 {
-        return Opening::NoPrice;
-    }
-    if !collar.is_allowed(static_price, last, best.price) {
-        return Opening::RefusedByCollar { price: best.price };
-    }
-    Opening::Printed {
-        price: best.price,
-        volume: best.volume,
+    match best {
+        Some(best) if best.volume != 0 => {
+            if collar.is_allowed(static_price, last, best.price) {
+                Opening::Printed {
+                    price: best.price,
+                    volume: best.volume,
+                }
+            } else {
+                Opening::RefusedByCollar { price: best.price }
+            }
+        }
+        _ => Opening::NoPrice,
     }
 }
 
@@ -56,13 +49,6 @@ pub fn opening_price<G: PriceGrid, C: Collar>(
         (λ _. Few buys.now × Few sells.now → ⊥) }
     ensures law { IfOk result (λ o. PriceLaw (G.lawful grid.now) (C.allows collar.now) static_price (auction last buys.now sells.now) o) }
 {
-    if buys.len() > MAX_ORDERS || sells.len() > MAX_ORDERS {
-        return Err(TooManyOrders);
-    }
-    Ok(decide(
-        collar,
-        static_price,
-        last,
-        best_price(grid, last, buys, sells),
-    ))
+    let auction = CallAuction::new(last, buys, sells)?;
+    Ok(decide(collar, static_price, last, auction.best_price(grid)))
 }

@@ -1,59 +1,52 @@
 // What a price executes.
-ghost use Rattle.std.specs.Prelude.{◌≡◌, min};
-ghost use Rattle.grid.specs.Prices.{distance};
-ghost use Rattle.rules.specs.Auctions.{buy_total, sell_total};
+ghost use Rattle.std.specs.Prelude.{◌≡◌, Bool};
+ghost use Rattle.std.specs.Fn.{FnReturnsAt};
+ghost use Rattle.rules.specs.declared.order.Order.{Order};
+ghost use Rattle.rules.specs.Auctions.{total, buy_total, sell_total, score_of};
 ghost use Rattle.pricing.specs.Few.{Few};
-ghost use Rattle.pricing.specs.Trials.{score_by};
+ghost use Rattle.pricing.specs.Calls.{auction_of, open_if};
 
+use crate::auction::CallAuction;
 use rules::{Order, Score};
 
-// The buy total at a price: what the buys that accept it have open.
-fn buy_total(buys: &[Order], price: u32) -> u64
-    requires { Few buys.now }
-    ensures { result ≡ buy_total buys.now price }
+// What the orders that pass a test have open.
+fn open_total<F: Fn(&Order) -> bool>(orders: &[Order], accepts: F) -> u64
+    requires callable { F.IsAlwaysCallable accepts }
+    requires few { Few orders.now }
+    ensures { (test : Order → Bool) → ((o : Order) (b : Bool) → FnReturnsAt F.Fn accepts o b → b ≡ test o) → result ≡ total (open_if test) orders.now }
 {
-    let mut sum: u64 = 0;
-    for order in buys {
-        if order.accepts_buying(price) {
-            sum += u64::from(order.open);
-        }
+    orders
+        .iter()
+        .filter(|order| accepts(order))
+        .map(|order| u64::from(order.open))
+        .sum()
+}
+
+impl CallAuction<'_> {
+    // The buy total at a price: what the buys that accept it have open.
+    fn buy_total(&self, price: u32) -> u64
+        ensures { result ≡ buy_total self.now.buys.now price }
+    {
+        open_total(self.buys, |order| order.accepts_buying(price))
     }
-    sum
-}
 
-// The sell total at a price: what the sells that accept it have open.
-fn sell_total(sells: &[Order], price: u32) -> u64
-    requires { Few sells.now }
-    ensures { result ≡ sell_total sells.now price }
-{
-    let mut sum: u64 = 0;
-    for order in sells {
-        if order.accepts_selling(price) {
-            sum += u64::from(order.open);
-        }
+    // The sell total at a price: what the sells that accept it have open.
+    fn sell_total(&self, price: u32) -> u64
+        ensures { result ≡ sell_total self.now.sells.now price }
+    {
+        open_total(self.sells, |order| order.accepts_selling(price))
     }
-    sum
-}
 
-// The volume and the surplus of a price: the smaller total, and the difference of the totals without sign.
-fn volume_and_surplus(buys: &[Order], sells: &[Order], price: u32) -> (u64, u64)
-    requires { (Few buys.now) × (Few sells.now) }
-    ensures { result ≡ (min (buy_total buys.now price) (sell_total sells.now price), distance (buy_total buys.now price) (sell_total sells.now price)) }
-{
-    let bought = buy_total(buys, price);
-    let sold = sell_total(sells, price);
-    (bought.min(sold), bought.abs_diff(sold))
-}
-
-// A price with what it executes.
-pub(crate) fn score(buys: &[Order], sells: &[Order], price: u32) -> Score
-    requires { (Few buys.now) × (Few sells.now) }
-    ensures { result ≡ score_by buys.now sells.now price }
-{
-    let (volume, surplus) = volume_and_surplus(buys, sells, price);
-    Score {
-        price,
-        volume,
-        surplus,
+    // A price with what it executes: the smaller total, and the difference of the totals without sign.
+    pub(crate) fn score(&self, price: u32) -> Score
+        ensures { result ≡ score_of (auction_of self.now) price }
+    {
+        let bought = self.buy_total(price);
+        let sold = self.sell_total(price);
+        Score {
+            price,
+            volume: bought.min(sold),
+            surplus: bought.abs_diff(sold),
+        }
     }
 }

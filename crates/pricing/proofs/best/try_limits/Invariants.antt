@@ -1,9 +1,0 @@
-use Rattle.std.proofs.Common.{◌≤◌, length, take}
-use Rattle.rules.specs.Auctions.{auction}
-use Rattle.pricing.specs.Trials.{SoFar}
-use Rattle.pricing.proofs.best.try_limits.Given as goal
-
-abbrev pub invariant-loop-order : goal.invariant-loop-order
-invariant-loop-order g l =
-    (l.order-index ≤ length l.orders)
-    × SoFar (g.G.PriceGrid.lawful l.grid) (auction l.last l.buys l.sells) l.initial.winner l.winner l.tried (take l.order-index l.orders)

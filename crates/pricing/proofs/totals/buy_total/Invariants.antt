@@ -1,7 +1,0 @@
-use Rattle.std.proofs.Common.{◌≡◌, ◌*◌, ◌≤◌, length, take}
-use Rattle.rules.specs.Auctions.{total, bought_at}
-use Rattle.pricing.proofs.totals.buy_total.Given as goal
-
-abbrev pub invariant-loop-order : goal.invariant-loop-order
-invariant-loop-order l =
-    (l.order-index ≤ length l.buys) × (l.sum ≤ l.order-index * 4294967295) × (l.sum ≡ total (bought_at l.price) (take l.order-index l.buys))
