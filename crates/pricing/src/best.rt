@@ -35,9 +35,11 @@ impl CallAuction<'_> {
         requires { Found (G.lawful grid.now) (auction_of self.now) best }
         ensures { Tried (G.lawful grid.now) (auction_of self.now) best result (Beside (G.lawful grid.now) x) }
     {
+        let above = grid.above(x);
+        let below = grid.below(x);
         let here = self.try_price(best, lawful_or_none(grid, x));
-        let upward = self.try_price(here, grid.above(x));
-        self.try_price(upward, grid.below(x))
+        let upward = self.try_price(here, above);
+        self.try_price(upward, below)
     }
 
     // Tries the limits of these orders, each with its lawful neighbours. Orders at one limit that stand together are tried

@@ -68,7 +68,7 @@ pub record Whole (rows : List TickRow) (end : ℕ) : Type 0 where
 
 neither : (a b : Option TableFault) → or_else a b ≡ None → (a ≡ None) × (b ≡ None)
 neither None b e = (refl, e)
-neither (Some f) b e = absurd (grind arith)
+neither (Some f) b e = absurd (cc)
 
 pub whole : (rows : List TickRow) (end : ℕ) → table_fault rows end ≡ None → Whole rows end
 whole rows end e =

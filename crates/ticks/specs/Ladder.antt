@@ -1,5 +1,5 @@
 -- Rows whose starts rise: each ends below the next, and all of them are prices.
-use Rattle.std.specs.Prelude.{◌≡◌, ℕ, zero, suc, ◌+◌, ◌-◌, ◌<◌, ◌≤◌, Bool, true, cond, List, Some, None, Option, ◌≢◌, nat_lt}
+use Rattle.std.specs.Prelude.{◌≡◌, ℕ, zero, suc, ◌+◌, ◌-◌, ◌<◌, ◌≤◌, Bool, true, cond, List, Some, None, ◌≢◌, nat_lt}
 use Rattle.std.proofs.Math.Path.{refl}
 use Rattle.std.proofs.Common.{ap, ◌∙◌, ⊎_elim, add-one, arith}
 use Rattle.std.proofs.lemmas.Bool.{cases_lt}
@@ -134,7 +134,4 @@ row_fits t i last f h e fault =
     let d = last_high t i h in
     let s = t.stepped i h in
     let none : even_fault (start_at t.rows i) (step_at t.rows i) last ≡ None = grind (arith, nat_tests) in
-    differ _ none fault
-  where
-    differ : (o : Option EvenFault) → o ≡ None → o ≢ Some f
-    differ o x y = let z : ◌≡◌ {A = ℕ} 0 1 = cc in omega arith
+    cc

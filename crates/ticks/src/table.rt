@@ -51,9 +51,9 @@ fn check_rows(rows: &[TickRow]) -> Result<(), TableFault>
 fn validate(rows: &[TickRow], end: u32) -> Result<(), TableFault>
     ensures { result_err result ≡ table_fault rows.now end }
 {
-    if rows.is_empty() {
+    let Some(last) = rows.last() else {
         return Err(TableFault::NoRows);
-    }
+    };
     if rows.len() > 32 {
         return Err(TableFault::TooManyRows);
     }
@@ -61,7 +61,7 @@ fn validate(rows: &[TickRow], end: u32) -> Result<(), TableFault>
     if !is_price(end) {
         return Err(TableFault::EndNotPrice);
     }
-    if end < rows[rows.len() - 1].start {
+    if end < last.start {
         return Err(TableFault::EndBelowLastStart);
     }
     Ok(())
