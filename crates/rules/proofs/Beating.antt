@@ -31,6 +31,12 @@ beats_not a p w h = grind (arith, nat_tests)
 
 -- ---- an order
 
+beats_trans : (a : Auction) (p q r : ℕ) → Beats a p q → Beats a q r → Beats a p r
+beats_trans a p q r h k = grind arith
+
+beats_never : (a : Auction) (p : ℕ) → Beats a p p → ⊥
+beats_never a p h = grind arith
+
 pub as_good_trans : (a : Auction) (v u c : ℕ) → AsGood a v u → AsGood a u c → AsGood a v c
 as_good_trans a v u c h k = grind arith
 

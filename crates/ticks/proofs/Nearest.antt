@@ -1,13 +1,12 @@
 -- The row that has the next price of a table.
-use Rattle.std.proofs.Common.{◌≡◌, ℕ, ◌<◌, Some, None, Option, subst, ⊎_elim, arith}
-use Rattle.std.proofs.lemmas.Bool.{cases_order}
+use Rattle.std.proofs.Common.{ℕ, ◌<◌, Some, None, Option, refl, arith}
 use Rattle.std.specs.Fn.{Called}
 use Rattle.std.specs.Iterator.Runs.{SomeRun, EachRunFrom, IsIdenticalRun, CallKeepsClosure}
 use Rattle.std.proofs.iter.Yields.{nat_range_steps}
 use Rattle.std.proofs.iter.runs.Sources.{nat_range_steps_back}
 use Rattle.grid.specs.Neighbours.{NextAbove, NextBelow}
 use Rattle.ticks.specs.Rows.{in_row, on_rows}
-use Rattle.ticks.specs.Ladder.{In, row_of, of_row, bounds, last_below}
+use Rattle.ticks.specs.Ladder.{row_of, above_found, below_found, below_none}
 use Rattle.ticks.specs.declared.table.TickTable.{TickTable}
 use Rattle.ticks.proofs.Mapped.{Stops, Found, first_up, first_down}
 use denote.Param.Members.{Mut}
@@ -19,43 +18,19 @@ module _ (t : TickTable) (p : ℕ) where
   abbrev pub BelowIn : ℕ → Option ℕ → Type 0
   BelowIn i = NextBelow (in_row t.rows t.count t.end i) p
 
-  -- the first row with a price above p has the next one
-  above_found : (r : Option ℕ) → Found (λ k i. k < i) AboveIn t.count r → NextAbove (on_rows t.rows t.count t.end) p r
-  above_found None none = λ x a on. let r = row_of t x on in none r.0 r.1 x a r.2
-  above_found (Some q) (i, h, next, before) = (
-    next.0,
-    of_row t q i h next.1,
-    λ x a b on.
-        let r = row_of t x on in
-        ⊎_elim
-        (λ (k : r.0 ≡ i). next.2 x a b (subst (λ (j : ℕ). In t j x) k r.2))
-        (⊎_elim
-        (λ (k : r.0 < i). before r.0 k r.1 x a r.2)
-        (λ (k : i < r.0). omega (arith, last_below t i r.0 k r.1, bounds t q i next.1, bounds t x r.0 r.2)))
-        (cases_order r.0 i),
-  )
+  above_first : (r : Option ℕ) → Found (λ k i. k < i) AboveIn t.count r → NextAbove (on_rows t.rows t.count t.end) p r
+  above_first None none = λ x a on. let r = row_of t x on in none r.0 r.1 x a r.2
+  above_first (Some q) (i, h, next, before) = above_found t i p h (λ k b. before k b (omega arith)) (Some q) refl next
 
-  -- the last row with a price below p has the next one
-  below_found : (r : Option ℕ) → Found (λ k i. i < k) BelowIn t.count r → NextBelow (on_rows t.rows t.count t.end) p r
-  below_found None none = λ x a on. let r = row_of t x on in none r.0 r.1 x a r.2
-  below_found (Some q) (i, h, next, after) = (
-    next.0,
-    of_row t q i h next.1,
-    λ x a b on.
-        let r = row_of t x on in
-        ⊎_elim
-        (λ (k : r.0 ≡ i). next.2 x a b (subst (λ (j : ℕ). In t j x) k r.2))
-        (⊎_elim
-        (λ (k : r.0 < i). omega (arith, last_below t r.0 i k h, bounds t q i next.1, bounds t x r.0 r.2))
-        (λ (k : i < r.0). after r.0 k r.1 x b r.2))
-        (cases_order r.0 i),
-  )
+  below_last : (r : Option ℕ) → Found (λ k i. i < k) BelowIn t.count r → NextBelow (on_rows t.rows t.count t.end) p r
+  below_last None none = λ x a on. let r = row_of t x on in below_none t r.0 p None refl (none r.0 r.1) x a r.2
+  below_last (Some q) (i, h, next, after) = below_found t i p h after (Some q) refl next
 
   module _ {F : Type 0} {g : Mut F (ℕ × Unit {0}) (Option ℕ)} {f : F} where
     pub above_mapped : (r : Option ℕ) → SomeRun nat_range_steps (record { start = 0; end = t.count }) (λ q. Stops g f r q)
         → CallKeepsClosure g f → ((k : ℕ) (o : Option ℕ) → Called g f (k, tt) o f → AboveIn k o) → NextAbove (on_rows t.rows t.count t.end) p r
-    above_mapped r h keeps gives = above_found r (first_up AboveIn t.count keeps gives r h)
+    above_mapped r h keeps gives = above_first r (first_up AboveIn t.count keeps gives r h)
 
     pub below_mapped : {S : Type 0} {steps : S → Option ℕ → S → Type 0} (s : S) (r : Option ℕ) → EachRunFrom steps s (λ q. SomeRun nat_range_steps_back (record { start = 0; end = t.count }) (λ b. IsIdenticalRun q b)) → SomeRun steps s (λ q. Stops g f r q)
         → CallKeepsClosure g f → ((k : ℕ) (o : Option ℕ) → Called g f (k, tt) o f → BelowIn k o) → NextBelow (on_rows t.rows t.count t.end) p r
-    below_mapped s r each h keeps gives = below_found r (first_down BelowIn t.count keeps gives s r each h)
+    below_mapped s r each h keeps gives = below_last r (first_down BelowIn t.count keeps gives s r each h)

@@ -1,10 +1,10 @@
 -- Rows whose starts rise: each ends below the next, and all of them are prices.
-use Rattle.std.specs.Prelude.{◌≡◌, ℕ, zero, suc, ◌+◌, ◌-◌, ◌<◌, ◌≤◌, Bool, true, cond, List, Some, None, ◌≢◌, nat_lt}
+use Rattle.std.specs.Prelude.{◌≡◌, ℕ, zero, suc, ◌+◌, ◌-◌, ◌<◌, ◌≤◌, Bool, true, false, cond, List, is_some, Some, None, Option, ◌≢◌, nat_lt}
 use Rattle.std.proofs.Math.Path.{refl}
-use Rattle.std.proofs.Common.{ap, ◌∙◌, ⊎_elim, add-one, arith}
-use Rattle.std.proofs.lemmas.Bool.{cases_lt}
+use Rattle.std.proofs.Common.{ap, subst, ◌∙◌, ⊎_elim, add-one, arith}
+use Rattle.std.proofs.lemmas.Bool.{cases_lt, cases_order, true≢false, false≢true}
 use Rattle.std.proofs.lemmas.Bool.Decides.{nat_tests, Decides-below_or}
-use Rattle.grid.specs.Neighbours.{Lawful}
+use Rattle.grid.specs.Neighbours.{Lawful, NextAbove, NextBelow}
 use Rattle.grid.specs.Steps.{on_steps}
 use Rattle.grid.specs.Setup.{even_fault}
 use Rattle.grid.specs.declared.setup.EvenFault.{EvenFault}
@@ -88,7 +88,7 @@ module _ (t : TickTable) where
       let m = t.high in
       grind (arith, nat_tests)
 
-  pub last_below : (i j : ℕ) → i < j → j < t.count → last_at t.rows t.count t.end i < start_at t.rows j
+  last_below : (i j : ℕ) → i < j → j < t.count → last_at t.rows t.count t.end i < start_at t.rows j
   last_below i j h k =
       let b = climbs_to (i + 1) j (omega arith) k in
       let l = start_low (i + 1) (omega arith) in
@@ -97,10 +97,10 @@ module _ (t : TickTable) where
   pub row_of : (p : ℕ) → On t p → (i : ℕ) × (i < t.count) × In t i p
   row_of p = which (λ i. in_row t.rows t.count t.end i p) t.count
 
-  pub of_row : (p i : ℕ) → i < t.count → In t i p → On t p
+  of_row : (p i : ℕ) → i < t.count → In t i p → On t p
   of_row p = some_at (λ i. in_row t.rows t.count t.end i p) t.count
 
-  pub bounds : (p i : ℕ) → In t i p → (start_at t.rows i ≤ p) × (p ≤ last_at t.rows t.count t.end i)
+  bounds : (p i : ℕ) → In t i p → (start_at t.rows i ≤ p) × (p ≤ last_at t.rows t.count t.end i)
   bounds p i on = let o = on_told (start_at t.rows i) (step_at t.rows i) (last_at t.rows t.count t.end i) p on in (o.0, o.1)
 
   pub lawful_price : (p : ℕ) → On t p → (1 ≤ p) × (p ≤ 99999999)
@@ -108,6 +108,43 @@ module _ (t : TickTable) where
       let r = row_of p on in
       let b = bounds p r.0 r.2 in
       (omega (arith, start_low r.0 r.1), omega (arith, last_high r.0 r.1))
+
+  -- the first row with a price above p has the next one
+  pub above_found : (i p : ℕ) → i < t.count → ((k : ℕ) → k < i → (x : ℕ) → p < x → In t k x → ⊥) → (r : Option ℕ) → is_some r ≡ true → NextAbove (in_row t.rows t.count t.end i) p r → NextAbove (on_rows t.rows t.count t.end) p r
+  above_found i p h before None e next = absurd (false≢true e)
+  above_found i p h before (Some q) e next = (
+    next.0,
+    of_row q i h next.1,
+    λ x a b on.
+        let r = row_of x on in
+        ⊎_elim
+        (λ (k : r.0 ≡ i). next.2 x a b (subst (λ (j : ℕ). In t j x) k r.2))
+        (⊎_elim
+        (λ (k : r.0 < i). before r.0 k x a r.2)
+        (λ (k : i < r.0). omega (arith, last_below i r.0 k r.1, bounds q i next.1, bounds x r.0 r.2)))
+        (cases_order r.0 i),
+  )
+
+  -- the last row with a price below p has the next one
+  pub below_found : (i p : ℕ) → i < t.count → ((k : ℕ) → i < k → k < t.count → (x : ℕ) → x < p → In t k x → ⊥) → (r : Option ℕ) → is_some r ≡ true → NextBelow (in_row t.rows t.count t.end i) p r → NextBelow (on_rows t.rows t.count t.end) p r
+  below_found i p h after None e next = absurd (false≢true e)
+  below_found i p h after (Some q) e next = (
+    next.0,
+    of_row q i h next.1,
+    λ x a b on.
+        let r = row_of x on in
+        ⊎_elim
+        (λ (k : r.0 ≡ i). next.2 x a b (subst (λ (j : ℕ). In t j x) k r.2))
+        (⊎_elim
+        (λ (k : r.0 < i). omega (arith, last_below r.0 i k h, bounds q i next.1, bounds x r.0 r.2))
+        (λ (k : i < r.0). after r.0 k r.1 x b r.2))
+        (cases_order r.0 i),
+  )
+
+  -- a row without a price below p
+  pub below_none : (i p : ℕ) (r : Option ℕ) → is_some r ≡ false → NextBelow (in_row t.rows t.count t.end i) p r → (x : ℕ) → x < p → In t i x → ⊥
+  below_none i p None e next = next
+  below_none i p (Some q) e next = absurd (true≢false e)
 
 -- ---- rows that agree
 
