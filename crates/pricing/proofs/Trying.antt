@@ -1,26 +1,25 @@
 -- One price more is tried: nothing that was covered is lost, and that price is covered.
 use Rattle.std.proofs.Common.{◌≡◌, ℕ, Bool, true, false, cond, ◌⊎◌, Some, None, Option, sym, refl, ap, ◌∙◌, subst, inl, inr, arith}
 use Rattle.std.proofs.lemmas.Bool.{cond_both, cond-true, cond-false, cases_Bool, both_ways}
+use Rattle.std.proofs.lemmas.Option.{none-some, same_Some}
 use Rattle.grid.specs.Neighbours.{Lawful, NextAbove, NextBelow}
 use Rattle.grid.proofs.Searches.{above_one, below_one}
 use Rattle.rules.specs.declared.opening.Score.{Score}
 use Rattle.rules.specs.Outranks.{outranks}
 use Rattle.rules.specs.Auctions.{Auction, score_of}
 use Rattle.rules.specs.Winners.{LosesTo}
-use Rattle.rules.proofs.Beating.{AsGood, as_good_trans, beats_says, beats_not, loses, beats_from}
+use Rattle.rules.proofs.Beating.{AsGood, beats_says, beats_not}
 use Rattle.pricing.specs.Trials.{Beside, Found, Covers, chosen, chosen_of, Tried}
 
 pub as_good : (a : Auction) (w c : ℕ) → (c ≡ w) ⊎ LosesTo a w c → AsGood a w c
-as_good a w c (inl e) = inl e
-as_good a w c (inr h) = inr (beats_from a w c h)
+as_good a w c h = grind arith
 
 covered : (a : Auction) (w c : ℕ) → AsGood a w c → (c ≡ w) ⊎ LosesTo a w c
-covered a w c (inl e) = inl e
-covered a w c (inr h) = inr (loses a w c h)
+covered a w c h = grind arith
 
 -- what is as good as a covering price covers too
 covered_by : (a : Auction) (v w c : ℕ) → AsGood a v w → (c ≡ w) ⊎ LosesTo a w c → (c ≡ v) ⊎ LosesTo a v c
-covered_by a v w c h k = covered a v c (as_good_trans a v w c h (as_good a w c k))
+covered_by a v w c h k = grind arith
 
 module _ (lawful : ℕ → Bool) (a : Auction) where
   unlawful_covered : (r : Option Score) (c : ℕ) → (Lawful lawful c → ⊥) → Covers lawful a r c
@@ -46,8 +45,8 @@ module _ (lawful : ℕ → Bool) (a : Auction) where
       })
 
   tried_of : (old : Option Score) (o : Option ℕ) → ((p : ℕ) → o ≡ Some p → Lawful lawful p) → Found lawful a old → Tried lawful a old (chosen_of a old o) (λ c. o ≡ Some c)
-  tried_of old None l f = tried_none old (λ c. None ≡ Some c) f (λ c e. absurd (let z : ◌≡◌ {A = ℕ} 0 1 = cc in omega arith))
-  tried_of old (Some p) l f = let t = tried_one old p (l p refl) f in record { found = t.found; keeps = t.keeps; adds = λ c e. t.adds c (let i : c ≡ p = cc in i) }
+  tried_of old None l f = tried_none old (λ c. None ≡ Some c) f (λ c e. absurd (cc))
+  tried_of old (Some p) l f = let t = tried_one old p (l p refl) f in record { found = t.found; keeps = t.keeps; adds = λ c e. t.adds c (cc) }
 
   -- a number, so far as lawful, then its neighbours
   pub around_tried : (old r1 r2 r3 : Option Score) (x : ℕ) (here up down : Option ℕ) → here ≡ cond (lawful x) (Some x) None → NextAbove lawful x up → NextBelow lawful x down
@@ -72,12 +71,6 @@ module _ (lawful : ℕ → Bool) (a : Auction) where
     where
       lawful_here : (p : ℕ) → here ≡ Some p → Lawful lawful p
       lawful_here p i = elim (cases_Bool (lawful x)) [
-        | inl l ↦ (let j : x ≡ p = some_same (sym (cond-true (lawful x) (Some x) None l) ∙ (sym e ∙ i)) in subst (Lawful lawful) j l)
-        | inr n ↦ absurd (none_some (sym (cond-false (lawful x) (Some x) None n) ∙ (sym e ∙ i)))
+        | inl l ↦ subst (Lawful lawful) (same_Some x p (sym (cond-true (lawful x) (Some x) None l) ∙ (sym e ∙ i))) l
+        | inr n ↦ absurd (none-some p (sym (cond-false (lawful x) (Some x) None n) ∙ (sym e ∙ i)))
       ]
-        where
-          some_same : {m n : ℕ} → Some m ≡ Some n → m ≡ n
-          some_same h = cc
-
-          none_some : {n : ℕ} → None ≡ Some n → ⊥
-          none_some h = let z : ◌≡◌ {A = ℕ} 0 1 = cc in omega arith
