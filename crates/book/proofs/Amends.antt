@@ -1,24 +1,22 @@
 -- Which check refuses an amendment.
 use Rattle.std.proofs.Common.{◌≡◌, ℕ, ◌<◌, true, false, eqb, get_or, Some, None, ap, ◌∙◌, arith}
 use mathlib.Core.Bool.{beq}
-use Rattle.std.proofs.lemmas.List.{get_or-take}
 use Rattle.trading.specs.declared.fault.BookFault.TheVariants.{Unpaired, LimitUnlawful}
 use Rattle.trading.specs.Books.{Book, Venue, is_ended, blank_order, blank_stop}
 use Rattle.trading.specs.Ranges.{is_number, is_quantity}
 use Rattle.trading.specs.Calls.{place, is_order, limit_at, in_buys, in_sells, first_fault, amend_checks, unlawful, why_unlawful}
-use Rattle.trading.specs.Desks.{Desk, book_of}
 use Rattle.book.specs.declared.finding.Spot.{Spot}
 use Rattle.book.specs.declared.finding.Spot.TheVariants.{Buys, Sells, Stops}
 use Rattle.book.specs.declared.amendment.Standing.{Standing}
 use Rattle.book.specs.Finding.{AtSpot}
 use Rattle.book.specs.Amending.{place_as, Stands}
 
-module _ (n : ℕ) (d : Desk) (i : ℕ) where
-  pub buy_stands : i < d.state.buys → AtSpot n (book_of d) (Buys i) → Stands n (book_of d) (record { spot = Buys i; order = get_or d.buys i blank_order })
-  buy_stands h at = record { at = at; is = at.1 blank_order ∙ ap in_buys (get_or-take d.state.buys d.buys i blank_order h) }
+module _ (n : ℕ) (b : Book) (i : ℕ) where
+  pub buy_stands : AtSpot n b (Buys i) → Stands n b (record { spot = Buys i; order = get_or b.buys i blank_order })
+  buy_stands at = record { at = at; is = at.1 blank_order }
 
-  pub sell_stands : i < d.state.sells → AtSpot n (book_of d) (Sells i) → Stands n (book_of d) (record { spot = Sells i; order = get_or d.sells i blank_order })
-  sell_stands h at = record { at = at; is = at.1 blank_order ∙ ap in_sells (get_or-take d.state.sells d.sells i blank_order h) }
+  pub sell_stands : AtSpot n b (Sells i) → Stands n b (record { spot = Sells i; order = get_or b.sells i blank_order })
+  sell_stands at = record { at = at; is = at.1 blank_order }
 
 -- a stop stands where no order does
 placed_order : (b : Book) (n : ℕ) (x : Standing) → Stands n b x → (is_order (place n b) ≡ true) × (limit_at (place n b) ≡ x.order.limit)

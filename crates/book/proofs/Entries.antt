@@ -1,5 +1,5 @@
 -- Which check refuses an entry.
-use Rattle.std.proofs.Common.{◌≡◌, ℕ, Bool, true, false, cond, not, ◌&&◌, leb, List, [], ◌∷◌, ◌++◌, Some, None, Option, is_some, refl, arith}
+use Rattle.std.proofs.Common.{◌≡◌, ℕ, subst, Bool, true, false, cond, not, ◌&&◌, leb, List, [], ◌∷◌, ◌++◌, Some, None, Option, is_some, refl, arith}
 use Rattle.trading.specs.declared.ticket.Ticket.{Ticket}
 use Rattle.trading.specs.declared.fault.BookFault.{BookFault}
 use Rattle.trading.specs.declared.fault.BookFault.TheVariants.{NumberLive, NoFirstTrade, BookFull}
@@ -8,6 +8,7 @@ use Rattle.trading.specs.Sweeps.{swept_by, reached}
 use Rattle.trading.specs.Calls.{Check, first_fault, place, nowhere, is_stop, stop_of, order_of, is_empty, is_somewhere, enter_checks}
 use Rattle.book.specs.declared.finding.Spot.{Spot}
 use Rattle.book.specs.Finding.{FoundBy}
+use Rattle.trading.specs.Desks.{Desk, book_of, capacity}
 use Rattle.book.specs.Entering.{queue_checks}
 use Rattle.book.proofs.Cancels.{somewhere}
 use Rattle.checks.specs.Brought.{ticket_checks}
@@ -78,3 +79,7 @@ module _ (lawful : ℕ → Bool) (allows : ℕ → ℕ → ℕ → Bool) (n : �
 
   pub ticket_passed : first_fault (ticket_checks lawful b.phase t) ≡ None → all ≡ first_fault (queue_checks (venue_of lawful allows) n t b)
   ticket_passed e = fault_later (ticket_checks lawful b.phase t) (queue_checks (venue_of lawful allows) n t b) e
+
+-- the checks of the queues of the book that is seen on a desk are those of the desk's
+pub queues_seen : (v : Venue) (d : Desk) (t : Ticket) (n : ℕ) (b : Book) (r : Option BookFault) → n ≡ capacity d → b ≡ book_of d → first_fault (queue_checks v n t b) ≡ r → first_fault (queue_checks v (capacity d) t (book_of d)) ≡ r
+queues_seen v d t n b r e f g = subst (λ n. first_fault (queue_checks v n t (book_of d)) ≡ r) e (subst (λ b. first_fault (queue_checks v n t b) ≡ r) f g)

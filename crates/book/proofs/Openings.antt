@@ -1,5 +1,5 @@
 -- What follows the price of an uncrossing has come about.
-use Rattle.std.proofs.Common.{◌≡◌, ℕ, ◌++◌, length, sym, ap, subst, arith}
+use Rattle.std.proofs.Common.{◌≡◌, ℕ, List, ◌++◌, length, sym, ap, subst, arith}
 use Rattle.std.proofs.lemmas.List.{append-nil, append_assoc}
 use Rattle.rules.specs.declared.opening.Opening.{Opening}
 use Rattle.rules.specs.declared.opening.Opening.TheVariants.{NoPrice, Printed}
@@ -15,12 +15,13 @@ use Rattle.lent.specs.Moves.{ReadyFor, Comes}
 use Rattle.checks.specs.Ground.{Standing}
 use Rattle.uncrossing.specs.Fits.{Fewer}
 use Rattle.sweeping.proofs.Following.{same_capacity, came_released}
-use Rattle.book.specs.Opened.{wholly}
-use Rattle.book.proofs.Coming.{ready_from, came_as}
+use Rattle.trading.specs.declared.report.ReportLine.{ReportLine}
+use Rattle.book.specs.Opened.{Openable, wholly}
+use Rattle.book.proofs.Coming.{Fresh, ready_from, came_as}
 
--- a fresh page has room for the lines of a sound book
-pub ready_page : (d : Desk) (p : Page) → Standing d (length p.lines) → p.written ≡ 0 → ReadyFor 0 d p
-ready_page d p s fresh = subst (λ k. Ready (capacity d) d (length p.lines) k 0) (sym fresh) (ready_from d (length p.lines) s)
+-- a sound book may open on a fresh page
+pub openable : (d : Desk) (report : List ReportLine) (p : Page) → Standing d (length report) → Fresh report p → Openable d p
+openable d report p s fresh = record { formed = s.formed; ready = subst (λ k. Ready (capacity d) d (length p.lines) k 0) (sym fresh.written) (subst (λ r. Ready (capacity d) d (length r) 0 0) (sym fresh.lines) (ready_from d (length report) s)) }
 
 module _ (d d' : Desk) (m : Moved) (p p' : Page) (ready : ReadyFor 0 d p) (came : Comes (capacity d) m d p d' p') (fewer : Fewer d p d' p') where
   -- there is room for the release of stops

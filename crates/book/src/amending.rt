@@ -10,7 +10,7 @@ ghost use Rattle.sweeping.specs.Beside.{venue};
 ghost use Rattle.book.specs.Out.{Fit};
 ghost use Rattle.book.specs.Amending.{Inside, desk_with, Stands, WroteAll, CutCame, AgainCame};
 
-use crate::amendment::{Standing, check_amendment};
+use crate::amendment::{Amendment, Standing, check_amendment};
 use crate::answering::answer;
 use crate::entering::enter_order;
 use crate::finding::Spot;
@@ -24,10 +24,10 @@ use sweeping::release_stops;
 use trading::{Answer, BookFault, Outcome, ReportLine};
 
 // Whether an order keeps its priority: its limit stays, and its quantity does not grow.
-fn keeps_priority(order: Order, limit: u32, quantity: u32) -> bool
-    ensures { result ≡ keeps_priority order limit quantity }
+fn keeps_priority(order: Order, asked: Amendment) -> bool
+    ensures { result ≡ keeps_priority order asked.limit asked.quantity }
 {
-    order.limit == limit && quantity <= order.open
+    order.limit == asked.limit && asked.quantity <= order.open
 }
 
 // Puts an order where it stands.
@@ -60,22 +60,21 @@ fn cut_order(
     desk: &mut Desk<'_>,
     report: &mut Report<'_>,
     standing: Standing,
-    number: u32,
-    quantity: u32,
+    asked: Amendment,
 )
     requires inside { Inside standing.spot (contents desk.old) }
-    requires cut { quantity ≤ standing.order.«open» }
+    requires cut { asked.quantity ≤ standing.order.«open» }
     requires line { report.old.written < length report.old.lines.now }
-    ensures cut { CutCame number quantity standing (contents desk.old) (page report.old) (contents desk.new) (page report.new) }
+    ensures cut { CutCame asked.number asked.quantity standing (contents desk.old) (page report.old) (contents desk.new) (page report.new) }
     ensures kept { Kept desk.old report.old desk.new report.new }
 {
-    let off = standing.order.open - quantity;
+    let off = standing.order.open - asked.quantity;
     let cut = Order {
-        open: quantity,
+        open: asked.quantity,
         ..standing.order
     };
     put_order(desk, standing.spot, cut);
-    write_cut(report, number, off);
+    write_cut(report, asked.number, off);
 }
 
 // The order that stands under the number leaves its queue and lapses, and enters anew with a new limit and quantity.
@@ -84,24 +83,22 @@ fn enter_again<C: Collar>(
     desk: &mut Desk<'_>,
     report: &mut Report<'_>,
     standing: Standing,
-    number: u32,
-    limit: u32,
-    quantity: u32,
+    asked: Amendment,
 )
     requires fit { Fit (contents desk.old) }
-    requires stands { Stands number (book_of (contents desk.old)) standing }
+    requires stands { Stands asked.number (book_of (contents desk.old)) standing }
     requires wide { report.old.written + capacity (contents desk.old) + 1 ≤ length report.old.lines.now }
-    ensures again { (g : Grid) → AgainCame (venue g (C.allows collar.now)) number limit quantity standing.order (contents desk.old) (page report.old) (contents desk.new) (page report.new) }
+    ensures again { (g : Grid) → AgainCame (venue g (C.allows collar.now)) asked.number asked.limit asked.quantity standing.order (contents desk.old) (page report.old) (contents desk.new) (page report.new) }
     ensures kept { Kept desk.old report.old desk.new report.new }
 {
     let lapsed = take_out(desk, standing.spot);
     report.write(ReportLine::Lapse {
-        number,
+        number: asked.number,
         quantity: lapsed,
     });
     let renewed = Order {
-        limit,
-        open: quantity,
+        limit: asked.limit,
+        open: asked.quantity,
         ..standing.order
     };
     enter_order(collar, desk, report, renewed);
@@ -122,14 +119,19 @@ pub fn amend<G: PriceGrid, C: Collar>(
     ensures kept { DeskKept desk.old desk.new }
 {
     check_ground(desk, report)?;
-    let standing = check_amendment(grid, desk, number, limit, quantity)?;
+    let asked = Amendment {
+        number,
+        limit,
+        quantity,
+    };
+    let standing = check_amendment(grid, &desk.book(), asked)?;
     let mut lines = Report::new(report);
-    if keeps_priority(standing.order, limit, quantity) {
-        cut_order(desk, &mut lines, standing, number, quantity);
+    if keeps_priority(standing.order, asked) {
+        cut_order(desk, &mut lines, standing, asked);
         release_stops(collar, desk, &mut lines);
         return Ok(answer(desk, &lines, Outcome::PriorityKept));
     }
-    enter_again(collar, desk, &mut lines, standing, number, limit, quantity);
+    enter_again(collar, desk, &mut lines, standing, asked);
     release_stops(collar, desk, &mut lines);
     Ok(answer(desk, &lines, Outcome::PriorityLost))
 }

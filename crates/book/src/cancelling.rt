@@ -25,7 +25,7 @@ pub fn cancel(
     if !is_number(number) {
         return Err(BookFault::NumberOutOfRange);
     }
-    let Some(spot) = find_record(desk, number) else {
+    let Some(spot) = find_record(&desk.book(), number) else {
         return Err(BookFault::NumberNotLive);
     };
     let quantity = take_out(desk, spot);

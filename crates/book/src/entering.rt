@@ -13,7 +13,7 @@ ghost use Rattle.book.specs.Entering.{StopCame};
 
 use crate::answering::answer;
 use crate::entry::{check_queues, is_stop};
-use checks::{check_ground, check_ticket};
+use checks::{capacity_of, check_ground, check_ticket};
 use collar::Collar;
 use grid::PriceGrid;
 use lent::{Desk, Report};
@@ -84,7 +84,7 @@ pub fn enter<G: PriceGrid, C: Collar>(
 {
     check_ground(desk, report)?;
     check_ticket(grid, desk.state.phase, ticket)?;
-    check_queues(collar, desk, ticket)?;
+    check_queues(collar, &desk.book(), capacity_of(desk), ticket)?;
     let mut lines = Report::new(report);
     enter_ticket(collar, desk, &mut lines, ticket);
     release_stops(collar, desk, &mut lines);

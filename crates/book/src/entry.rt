@@ -1,21 +1,17 @@
 // Whether a ticket may enter, by how the book stands.
 ghost use Rattle.std.specs.Prelude.{◌≡◌, ◌≤◌, not, ◌&&◌};
 ghost use Rattle.rules.specs.Candidates.{Grid};
-ghost use Rattle.trading.specs.Books.{is_ioc};
+ghost use Rattle.trading.specs.Books.{is_ioc, held};
 ghost use Rattle.trading.specs.Sweeps.{reached, swept_by};
 ghost use Rattle.trading.specs.Calls.{is_stop, stop_of, order_of, is_empty};
-ghost use Rattle.trading.specs.Carried.{CountsFit};
-ghost use Rattle.trading.specs.Desks.{book_of, capacity};
-ghost use Rattle.trading.specs.Moves.{counted};
-ghost use Rattle.lent.specs.Contents.{contents};
+ghost use Rattle.lent.specs.Contents.{book_seen};
 ghost use Rattle.checks.specs.Ground.{CheckedBy};
 ghost use Rattle.sweeping.specs.Beside.{venue};
 ghost use Rattle.book.specs.Entering.{queue_checks};
 
 use crate::finding::find_record;
-use checks::capacity_of;
 use collar::Collar;
-use lent::Desk;
+use lent::Book;
 use rules::{Order, Side, Validity};
 use sweeping::{is_reached, meets_someone};
 use trading::{BookFault, Kind, StopOrder, Ticket};
@@ -40,48 +36,43 @@ fn is_reached_stop(ticket: Ticket, last: u32) -> bool
 }
 
 // Whether an order would trade if it swept the book now.
-fn trades_at_once<C: Collar>(collar: &C, desk: &Desk<'_>, order: Order) -> bool
-    requires { CountsFit (contents desk.now) }
-    ensures { (g : Grid) → result ≡ not (is_empty (swept_by (venue g (C.allows collar.now)) order (book_of (contents desk.now))).trades) }
+fn trades_at_once<C: Collar>(collar: &C, book: &Book<'_>, order: Order) -> bool
+    ensures { (g : Grid) → result ≡ not (is_empty (swept_by (venue g (C.allows collar.now)) order (book_seen book.now)).trades) }
 {
-    let queue = match order.side {
-        Side::Buy => &desk.sells[0..desk.state.sells],
-        Side::Sell => &desk.buys[0..desk.state.buys],
+    let opposite = match order.side {
+        Side::Buy => book.sells,
+        Side::Sell => book.buys,
     };
-    meets_someone(
-        collar,
-        desk.state.static_price,
-        desk.state.last,
-        order,
-        queue,
-    )
+    meets_someone(collar, book.static_price, book.last, order, opposite)
 }
 
 // Whether a ticket has to trade at once and would not.
-fn lacks_first_trade<C: Collar>(collar: &C, desk: &Desk<'_>, ticket: Ticket) -> bool
-    requires { CountsFit (contents desk.now) }
-    ensures { (g : Grid) → result ≡ is_ioc ticket.validity && is_empty (swept_by (venue g (C.allows collar.now)) (order_of ticket) (book_of (contents desk.now))).trades }
+fn lacks_first_trade<C: Collar>(collar: &C, book: &Book<'_>, ticket: Ticket) -> bool
+    ensures { (g : Grid) → result ≡ is_ioc ticket.validity && is_empty (swept_by (venue g (C.allows collar.now)) (order_of ticket) (book_seen book.now)).trades }
 {
-    is_ioc(ticket.validity) && !trades_at_once(collar, desk, Order::from(ticket))
+    is_ioc(ticket.validity) && !trades_at_once(collar, book, Order::from(ticket))
 }
 
-// Makes the checks of an entry that look at the queues.
-pub fn check_queues<C: Collar>(collar: &C, desk: &Desk<'_>, ticket: Ticket) -> Result<(), BookFault>
-    requires counts { CountsFit (contents desk.now) }
-    requires few { counted (contents desk.now) ≤ capacity (contents desk.now) }
-    ensures { let d = contents desk.now in
-        ((g : Grid) → CheckedBy (queue_checks (venue g (C.allows collar.now)) (capacity d) ticket (book_of d)) result) }
+// Makes the checks of an entry that look at the queues; the tables have room for `capacity` records.
+pub fn check_queues<C: Collar>(
+    collar: &C,
+    book: &Book<'_>,
+    capacity: usize,
+    ticket: Ticket,
+) -> Result<(), BookFault>
+    requires { held (book_seen book.now) ≤ capacity }
+    ensures { (g : Grid) → CheckedBy (queue_checks (venue g (C.allows collar.now)) capacity ticket (book_seen book.now)) result }
 {
-    if find_record(desk, ticket.number).is_some() {
+    if find_record(book, ticket.number).is_some() {
         return Err(BookFault::NumberLive);
     }
-    if capacity_of(desk) <= desk.state.buys + desk.state.sells + desk.state.stops {
+    if capacity <= book.buys.len() + book.sells.len() + book.stops.len() {
         return Err(BookFault::BookFull);
     }
-    if is_reached_stop(ticket, desk.state.last) {
+    if is_reached_stop(ticket, book.last) {
         return Err(BookFault::StopReached);
     }
-    if lacks_first_trade(collar, desk, ticket) {
+    if lacks_first_trade(collar, book, ticket) {
         return Err(BookFault::NoFirstTrade);
     }
     Ok(())

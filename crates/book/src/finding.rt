@@ -1,10 +1,8 @@
 // Where a record with a number stands.
-ghost use Rattle.trading.specs.Desks.{book_of};
-ghost use Rattle.trading.specs.Carried.{CountsFit};
-ghost use Rattle.lent.specs.Contents.{contents};
+ghost use Rattle.lent.specs.Contents.{book_seen};
 ghost use Rattle.book.specs.Finding.{FoundBy};
 
-use lent::Desk;
+use lent::Book;
 use queue::find_number;
 
 // A place in one of the three queues.
@@ -16,17 +14,16 @@ pub enum Spot {
 }
 
 // The first record with the number, looked for in buys, then sells, then stops.
-pub fn find_record(desk: &Desk<'_>, number: u32) -> Option<Spot>
-    requires { CountsFit (contents desk.now) }
-    ensures { FoundBy number (book_of (contents desk.now)) result }
+pub fn find_record(book: &Book<'_>, number: u32) -> Option<Spot>
+    ensures { FoundBy number (book_seen book.now) result }
 {
-    if let Some(i) = find_number(&desk.buys[0..desk.state.buys], number) {
+    if let Some(i) = find_number(book.buys, number) {
         return Some(Spot::Buys(i));
     }
-    if let Some(i) = find_number(&desk.sells[0..desk.state.sells], number) {
+    if let Some(i) = find_number(book.sells, number) {
         return Some(Spot::Sells(i));
     }
-    if let Some(i) = find_number(&desk.stops[0..desk.state.stops], number) {
+    if let Some(i) = find_number(book.stops, number) {
         return Some(Spot::Stops(i));
     }
     None

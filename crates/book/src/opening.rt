@@ -1,14 +1,13 @@
 // What follows the price of an uncrossing.
-ghost use Rattle.std.specs.Prelude.{◌≡◌, ◌++◌, length};
+ghost use Rattle.std.specs.Prelude.{◌++◌};
 ghost use Rattle.rules.specs.Candidates.{Grid};
 ghost use Rattle.trading.specs.Desks.{book_of, capacity};
 ghost use Rattle.trading.specs.Sweeps.{moved, then_released};
 ghost use Rattle.trading.specs.Uncrossings.{pairs, vfu_lapses, without_vfu, printed_at};
 ghost use Rattle.lent.specs.Contents.{contents, page, Kept};
 ghost use Rattle.lent.specs.Moves.{Comes};
-ghost use Rattle.checks.specs.Ground.{Standing};
 ghost use Rattle.sweeping.specs.Beside.{venue};
-ghost use Rattle.book.specs.Opened.{OpeningCame};
+ghost use Rattle.book.specs.Opened.{Openable, OpeningCame};
 
 use collar::Collar;
 use lent::{Desk, Report};
@@ -19,8 +18,7 @@ use uncrossing::{close_unprinted, open_unprinted, print_and_close, print_and_ope
 
 // No price, into continuous trading: the VFU orders lapse, then stops are released.
 fn open_without_price<C: Collar>(collar: &C, desk: &mut Desk<'_>, report: &mut Report<'_>)
-    requires sound { Standing (contents desk.old) (length report.old.lines.now) }
-    requires fresh { report.old.written ≡ 0 }
+    requires { Openable (contents desk.old) (page report.old) }
     ensures came { let d = contents desk.old in
         ((g : Grid) → Comes (capacity d) (then_released (venue g (C.allows collar.now)) (moved (without_vfu (book_of d)) (vfu_lapses (book_of d)))) d (page report.old) (contents desk.new) (page report.new)) }
     ensures kept { Kept desk.old report.old desk.new report.new }
@@ -31,8 +29,7 @@ fn open_without_price<C: Collar>(collar: &C, desk: &mut Desk<'_>, report: &mut R
 
 // The trades at the price come first.
 fn open_at_price<C: Collar>(collar: &C, desk: &mut Desk<'_>, report: &mut Report<'_>, price: u32)
-    requires sound { Standing (contents desk.old) (length report.old.lines.now) }
-    requires fresh { report.old.written ≡ 0 }
+    requires { Openable (contents desk.old) (page report.old) }
     ensures came { let d = contents desk.old in
         let b = book_of d in
         ((g : Grid) → Comes (capacity d) (then_released (venue g (C.allows collar.now)) (moved (without_vfu (printed_at price b)) ((pairs price b.buys b.sells).trades ++ vfu_lapses (printed_at price b)))) d (page report.old) (contents desk.new) (page report.new)) }
@@ -50,8 +47,7 @@ pub fn carry_out_opening<C: Collar>(
     opening: Opening,
     next: Next,
 )
-    requires sound { Standing (contents desk.old) (length report.old.lines.now) }
-    requires fresh { report.old.written ≡ 0 }
+    requires { Openable (contents desk.old) (page report.old) }
     ensures came { OpeningCame (C.allows collar.now) next opening (contents desk.old) (page report.old) (contents desk.new) (page report.new) }
     ensures kept { Kept desk.old report.old desk.new report.new }
 {

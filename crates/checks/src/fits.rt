@@ -54,11 +54,9 @@ fn in_order<R: Ranked>(queue: &[R]) -> bool
     queue.iter().is_sorted_by(|a, b| !b.precedes(a))
 }
 
-// The first `count` records of a table fit the side, and stand in order. The count stands in the state of a book, apart from the table.
-pub fn begins_with_queue<R: Fitting + Ranked>(table: &[R], count: usize, side: Side) -> bool
-    requires { count ≤ length table.now }
-    ensures { result ≡ (all_pass (R.fits side) (take count table.now) && in_order R.ahead (take count table.now)) }
+// The records may be the queue of a side: each fits it, and they stand in order.
+pub fn is_queue<R: Fitting + Ranked>(records: &[R], side: Side) -> bool
+    ensures { result ≡ (all_pass (R.fits side) records.now && in_order R.ahead records.now) }
 {
-    let queue = &table[..count];
-    all_fit(queue, side) && in_order(queue)
+    all_fit(records, side) && in_order(records)
 }

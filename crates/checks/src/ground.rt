@@ -1,13 +1,12 @@
 // The checks that every call makes first: room in the report, and well-formed tables.
 ghost use Rattle.std.specs.Prelude.{◌≡◌, length};
-ghost use Rattle.trading.specs.Desks.{book_of, capacity, counts_fit, queues_fit, well_formed};
-ghost use Rattle.trading.specs.Carried.{CountsFit};
-ghost use Rattle.lent.specs.Contents.{contents};
+ghost use Rattle.trading.specs.Desks.{capacity, counts_fit, queues_fit, well_formed};
+ghost use Rattle.lent.specs.Contents.{contents, book_seen};
 ghost use Rattle.checks.specs.Ground.{Ground};
 
-use crate::fits::begins_with_queue;
+use crate::fits::is_queue;
 use grid::is_price;
-use lent::Desk;
+use lent::{Book, Desk};
 use rules::Side;
 use trading::{BookFault, ReportLine};
 
@@ -32,21 +31,20 @@ fn counts_fit(desk: &Desk<'_>) -> bool
         && desk.state.buys + desk.state.sells + desk.state.stops <= n
 }
 
-fn queues_fit(desk: &Desk<'_>) -> bool
-    requires { CountsFit (contents desk.now) }
-    ensures { result ≡ queues_fit (book_of (contents desk.now)) }
+fn queues_fit(book: &Book<'_>) -> bool
+    ensures { result ≡ queues_fit (book_seen book.now) }
 {
-    begins_with_queue(desk.buys, desk.state.buys, Side::Buy)
-        && begins_with_queue(desk.sells, desk.state.sells, Side::Sell)
-        && begins_with_queue(desk.stops, desk.state.stops, Side::Buy)
-        && is_price(desk.state.static_price)
-        && is_price(desk.state.last)
+    is_queue(book.buys, Side::Buy)
+        && is_queue(book.sells, Side::Sell)
+        && is_queue(book.stops, Side::Buy)
+        && is_price(book.static_price)
+        && is_price(book.last)
 }
 
 fn well_formed(desk: &Desk<'_>) -> bool
     ensures { result ≡ well_formed (contents desk.now) }
 {
-    counts_fit(desk) && queues_fit(desk)
+    counts_fit(desk) && queues_fit(&desk.book())
 }
 
 // Refuses a report that is too short, then tables that are not well-formed.

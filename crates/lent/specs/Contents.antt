@@ -2,12 +2,18 @@
 use Rattle.std.specs.Prelude.{◌≡◌, ℕ, List, length}
 use Rattle.trading.specs.declared.report.ReportLine.{ReportLine}
 use Rattle.trading.specs.Desks as desks
+use Rattle.trading.specs.Books as books
 use Rattle.lent.specs.declared.desk.Desk.{Desk}
+use Rattle.lent.specs.declared.desk.Book.{Book}
 use Rattle.lent.specs.declared.report.Report.{Report}
 
 -- the state and the records of the tables
 abbrev pub contents : Desk → desks.Desk
 contents d = desks.desk_of d.state.now d.buys.now d.sells.now d.stops.now
+
+-- the phase, the prices and the queues
+abbrev pub book_seen : Book → books.Book
+book_seen b = record { phase = b.phase; static = b.static_price; last = b.last; buys = b.buys.now; sells = b.sells.now; stops = b.stops.now }
 
 -- the lines of a report, and how many of them are written
 pub record Page : Type 0 where

@@ -1,6 +1,11 @@
-// A book as it lies in memory.
+// A book as it lies in memory, and as it stands.
+ghost use Rattle.std.specs.Prelude.{◌≡◌};
+ghost use Rattle.trading.specs.Carried.{CountsFit};
+ghost use Rattle.trading.specs.Desks.{book_of};
+ghost use Rattle.lent.specs.Contents.{contents, book_seen};
+
 use rules::Order;
-use trading::{State, StopOrder};
+use trading::{Phase, State, StopOrder};
 
 // The state and the three tables of a book; whoever makes the desk lends them. A table's first records, as many as its count in
 // the state, are its queue.
@@ -10,4 +15,32 @@ pub struct Desk<'a> {
     pub buys: &'a mut [Order],
     pub sells: &'a mut [Order],
     pub stops: &'a mut [StopOrder],
+}
+
+// The book on a desk: its phase, its two prices, and its queues from the front.
+#[derive(Clone, Copy)]
+pub struct Book<'a> {
+    pub phase: Phase,
+    pub static_price: u32,
+    pub last: u32,
+    pub buys: &'a [Order],
+    pub sells: &'a [Order],
+    pub stops: &'a [StopOrder],
+}
+
+impl Desk<'_> {
+    // The book as it stands.
+    pub fn book(&self) -> Book<'_>
+        requires { CountsFit (contents self.now) }
+        ensures { book_seen result ≡ book_of (contents self.now) }
+    {
+        Book {
+            phase: self.state.phase,
+            static_price: self.state.static_price,
+            last: self.state.last,
+            buys: &self.buys[..self.state.buys],
+            sells: &self.sells[..self.state.sells],
+            stops: &self.stops[..self.state.stops],
+        }
+    }
 }

@@ -5,5 +5,5 @@
 mod desk;
 mod report;
 
-pub use desk::Desk;
+pub use desk::{Book, Desk};
 pub use report::Report;

@@ -4,10 +4,8 @@ use Rattle.std.specs.List.{remove}
 use Rattle.rules.specs.declared.order.Side.TheVariants.{Buy}
 use Rattle.rules.specs.Candidates.{Grid}
 use Rattle.trading.specs.declared.stop.StopOrder.{StopOrder}
-use Rattle.trading.specs.declared.state.Phase.{Phase}
-use Rattle.trading.specs.Queues.{first_that}
 use Rattle.trading.specs.Books.{Book, is_continuous, with_stops}
-use Rattle.trading.specs.Sweeps.{Moved, sweeps, reached, as_day_order, only_if}
+use Rattle.trading.specs.Sweeps.{Moved, sweeps, reached, as_day_order, due_stop}
 use Rattle.trading.specs.Desks.{Desk, book_of}
 use Rattle.trading.specs.Moves.{Ready}
 use Rattle.lent.specs.Contents.{Page}
@@ -20,10 +18,8 @@ abbrev pub blank_stop : StopOrder
 blank_stop = record { number = 0; side = Buy; trigger = 0; limit = 0; quantity = 0 }
 
 -- where the stop that is due stands: the first reached one, in continuous trading
-abbrev pub DueAt : Phase → ℕ → List StopOrder → Option ℕ → Type 0
-DueAt phase last stops r =
-    MatchOption r (only_if (is_continuous phase) (first_that (reached last) stops) ≡ None)
-    (λ i. (is_continuous phase ≡ true) × FirstAt (reached last) stops i)
+abbrev pub DueAt : Book → Option ℕ → Type 0
+DueAt b r = MatchOption r (due_stop b ≡ None) (λ i. (is_continuous b.phase ≡ true) × FirstAt (reached b.last) b.stops i)
 
 -- the stop at i leaves its queue, and sweeps as a day order
 abbrev pub released_at : Grid → (ℕ → ℕ → ℕ → Bool) → ℕ → Book → Moved

@@ -1,7 +1,7 @@
 // The release of stops.
 ghost use Rattle.std.specs.Prelude.{◌≡◌, ◌<◌, ◌≤◌, length, take};
 ghost use Rattle.rules.specs.Candidates.{Grid};
-ghost use Rattle.lent.specs.Contents.{contents, page, Kept};
+ghost use Rattle.lent.specs.Contents.{contents, book_seen, page, Kept};
 ghost use Rattle.trading.specs.Sweeps.{reached, release_all};
 ghost use Rattle.trading.specs.Desks.{book_of, capacity};
 ghost use Rattle.queue.specs.Places.{FirstFound};
@@ -12,7 +12,7 @@ ghost use Rattle.sweeping.specs.Releases.{DueAt, ReleasedAt};
 use super::meet::is_within;
 use super::orders::sweep_order;
 use collar::Collar;
-use lent::{Desk, Report};
+use lent::{Book, Desk, Report};
 use queue::leave_table;
 use rules::Order;
 use trading::{Phase, StopOrder};
@@ -32,13 +32,12 @@ pub fn first_reached(stops: &[StopOrder], last: u32) -> Option<usize>
 }
 
 // Where the stop that is due stands: the first reached one, in continuous trading.
-pub fn find_due(desk: &Desk<'_>) -> Option<usize>
-    requires { desk.now.state.now.stops ≤ length desk.now.stops.now }
-    ensures { DueAt desk.now.state.now.phase desk.now.state.now.last (take desk.now.state.now.stops desk.now.stops.now) result }
+pub fn find_due(book: &Book<'_>) -> Option<usize>
+    ensures { DueAt (book_seen book.now) result }
 {
-    match desk.state.phase {
+    match book.phase {
         Phase::Call => None,
-        Phase::Continuous => first_reached(&desk.stops[0..desk.state.stops], desk.state.last),
+        Phase::Continuous => first_reached(book.stops, book.last),
         Phase::Ended => None,
     }
 }
@@ -64,7 +63,7 @@ pub fn release_stops<C: Collar>(collar: &C, desk: &mut Desk<'_>, report: &mut Re
         ((g : Grid) → Comes (capacity d) (release_all (venue g (C.allows collar.now)) (book_of d)) d (page report.old) (contents desk.new) (page report.new)) }
     ensures kept { Kept desk.old report.old desk.new report.new }
 {
-    'releases: while let Some(i) = find_due(desk) {
+    'releases: while let Some(i) = find_due(&desk.book()) {
         release_at(collar, desk, report, i);
     }
 }

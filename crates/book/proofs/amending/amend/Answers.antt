@@ -1,4 +1,4 @@
-use Rattle.std.proofs.Common.{length, sym, ap, subst, arith, rules}
+use Rattle.std.proofs.Common.{Ok, Err, length, sym, ap, subst, arith, rules}
 use Rattle.std.proofs.lemmas.Result.{err_from_is_err_and}
 use Rattle.rules.specs.Candidates.{grid_of}
 use Rattle.trading.specs.declared.answer.Outcome.TheVariants.{PriorityKept, PriorityLost}
@@ -7,6 +7,7 @@ use Rattle.trading.specs.Books.{venue_of}
 use Rattle.trading.specs.Desks.{capacity}
 use Rattle.trading.specs.Moves.{Ready}
 use Rattle.lent.specs.Contents.{contents, page}
+use Rattle.book.specs.Amending.{MayAmend}
 use Rattle.book.proofs.Calls.{made_refusing_all, made_turned}
 use Rattle.book.proofs.Coming.{Fresh, made_told}
 use Rattle.book.proofs.Cuts.{stands_inside, ready_after_cut}
@@ -21,15 +22,20 @@ returns-in_err-check_ground-clause-made g c =
 pub returns-in_err-standing-clause-made : goal.returns-in_err-standing-clause-made
 returns-in_err-standing-clause-made g c =
     let p = err_from_is_err_and c.from_residual-in_err-standing.result c.from_residual-in_err-standing.ensures.1 in
+    let lawful = g.G.PriceGrid.lawful c.args.grid.now in
     let allows = g.C.Collar.allows c.args.collar.now in
-    rw (p.1, p.2) (made_turned (g.G.PriceGrid.lawful c.args.grid.now) allows (g.met.G.PriceGrid.priced c.args.grid.now) (contents c.args.desk.now) (Amend c.args.number c.args.limit c.args.quantity) c.args.report.now c.in_ok-check_ground.ensures _ (c.in_err-standing.ensures allows))
+    let v = venue_of lawful allows in
+    rw (p.1, p.2) (made_turned lawful allows (g.met.G.PriceGrid.priced c.args.grid.now) (contents c.args.desk.now) (Amend c.args.number c.args.limit c.args.quantity) c.args.report.now c.in_ok-check_ground.ensures _ (subst (λ b. MayAmend v c.args.number c.args.limit c.args.quantity b (Err c.in_err-standing.field-0.0)) c.book.ensures (c.in_err-standing.ensures allows)))
 
 pub cut_order-requires : goal.cut_order-requires
 cut_order-requires g c =
+    let allows = g.C.Collar.allows c.args.collar.now in
+    let v = venue_of (g.G.PriceGrid.lawful c.args.grid.now) allows in
     let x = c.in_ok-standing.standing in
     let n = c.new-lines.ensures in
+    let may = subst (λ b. MayAmend v c.args.number c.args.limit c.args.quantity b (Ok c.in_ok-standing.standing)) c.book.ensures (c.in_ok-standing.ensures allows) in
     record {
-      inside = stands_inside c.args.number (contents c.args.desk.now) x (c.in_ok-standing.ensures (g.C.Collar.allows c.args.collar.now)).1;
+      inside = stands_inside c.args.number (contents c.args.desk.now) x may.1;
       cut = no_more x.order c.args.limit c.args.quantity (sym c.if-keeps_priority.ensures);
       line = omega (arith, c.in_ok-check_ground.ensures.wide, n.written, ap length n.lines);
     }
@@ -52,7 +58,7 @@ returns-then-keeps_priority-clause-made g c =
     let x = c.cut_order in
     let y = c.release_stops in
     let s = c.in_ok-check_ground.ensures in
-    let may = c.in_ok-standing.ensures allows in
+    let may = subst (λ b. MayAmend v c.args.number c.args.limit c.args.quantity b (Ok c.in_ok-standing.standing)) c.book.ensures (c.in_ok-standing.ensures allows) in
     let fresh : Fresh c.args.report.now p = record { lines = c.new-lines.ensures.lines; written = c.new-lines.ensures.written } in
     made_told lawful allows (g.met.G.PriceGrid.priced c.args.grid.now) d (Amend c.args.number c.args.limit c.args.quantity) c.args.report.now s PriorityKept (contents y.new.desk) (page y.new.report) _ _ c.answer.ensures (search rules) may.0
     (kept_took v c.args.number c.args.limit c.args.quantity c.in_ok-standing.standing d (contents x.new.desk) (contents y.new.desk) c.args.report.now p (page x.new.report) (page y.new.report) s fresh may.1 (y.ensures.released (grid_of lawful))
@@ -60,11 +66,14 @@ returns-then-keeps_priority-clause-made g c =
 
 pub enter_again-requires : goal.enter_again-requires
 enter_again-requires g c =
+    let allows = g.C.Collar.allows c.args.collar.now in
+    let v = venue_of (g.G.PriceGrid.lawful c.args.grid.now) allows in
     let s = c.in_ok-check_ground.ensures in
     let n = c.new-lines.ensures in
+    let may = subst (λ b. MayAmend v c.args.number c.args.limit c.args.quantity b (Ok c.in_ok-standing.standing)) c.book.ensures (c.in_ok-standing.ensures allows) in
     record {
       fit = record { counts = s.counts; few = s.few };
-      stands = (c.in_ok-standing.ensures (g.C.Collar.allows c.args.collar.now)).1;
+      stands = may.1;
       wide = omega (arith, s.wide, n.written, ap length n.lines);
     }
 
@@ -84,7 +93,7 @@ returns-clause-made g c =
     let x = c.enter_again in
     let y = c.release_stops-2 in
     let s = c.in_ok-check_ground.ensures in
-    let may = c.in_ok-standing.ensures allows in
+    let may = subst (λ b. MayAmend v c.args.number c.args.limit c.args.quantity b (Ok c.in_ok-standing.standing)) c.book.ensures (c.in_ok-standing.ensures allows) in
     let fresh : Fresh c.args.report.now p = record { lines = c.new-lines.ensures.lines; written = c.new-lines.ensures.written } in
     made_told lawful allows (g.met.G.PriceGrid.priced c.args.grid.now) d (Amend c.args.number c.args.limit c.args.quantity) c.args.report.now s PriorityLost (contents y.new.desk) (page y.new.report) _ _ c.answer-2.ensures (search rules) may.0
     (lost_took v c.args.number c.args.limit c.args.quantity c.in_ok-standing.standing d (contents x.new.desk) (contents y.new.desk) c.args.report.now p (page x.new.report) (page y.new.report) s fresh may.1 (y.ensures.released (grid_of lawful))

@@ -12,8 +12,8 @@ returns-clause-cut c =
     let w = c.write_cut in
     let st = c.args.standing in
     record {
-      came = λ fit s. subst (λ (d' : Desk). Comes (capacity d) (cut c.args.number c.args.quantity (book_of d) (place c.args.number (book_of d)) st.order) d (page c.args.report.now) d' (page w.new.report)) (sym c.put_order.ensures.put)
-          (cut_at c.args.number c.args.quantity d (page c.args.report.now) (page w.new.report) st.order fit c.requires.cut w.ensures.wrote st.spot s.at s.is);
+      came = λ fit s. subst (λ (d' : Desk). Comes (capacity d) (cut c.args.asked.number c.args.asked.quantity (book_of d) (place c.args.asked.number (book_of d)) st.order) d (page c.args.report.now) d' (page w.new.report)) (sym c.put_order.ensures.put)
+          (cut_at c.args.asked.number c.args.asked.quantity d (page c.args.report.now) (page w.new.report) st.order fit c.requires.cut w.ensures.wrote st.spot s.at s.is);
       few = w.ensures.few;
-      state = ap (λ (d' : Desk). d'.state) c.put_order.ensures.put ∙ same_state st.spot (with_quantity st.order c.args.quantity) d;
+      state = ap (λ (d' : Desk). d'.state) c.put_order.ensures.put ∙ same_state st.spot (with_quantity st.order c.args.asked.quantity) d;
     }

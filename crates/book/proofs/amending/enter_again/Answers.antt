@@ -14,7 +14,7 @@ returns-clause-again g c = λ grid.
     let x = c.enter_order in
     let d' = contents t.new.desk in
     let p' = page w.new.self in
-    let out = t.ensures.out c.args.number c.requires.stands.at in
-    came_again c.args.number t.result d d' c.args.standing p p' c.requires.fit c.requires.stands c.requires.wide out w.ensures.line w.ensures.written
-    (venue grid (g.C.Collar.allows c.args.collar.now)) c.args.limit c.args.quantity (contents x.new.desk) (page x.new.report)
-    ((x.ensures.entered grid).came (capacity d) (length p.lines) p'.written (room_again c.args.number t.result d d' c.args.standing p p' c.requires.fit c.requires.stands c.requires.wide out w.ensures.line w.ensures.written))
+    let out = t.ensures.out c.args.asked.number c.requires.stands.at in
+    came_again c.args.asked.number t.result d d' c.args.standing p p' c.requires.fit c.requires.stands c.requires.wide out w.ensures.line w.ensures.written
+    (venue grid (g.C.Collar.allows c.args.collar.now)) c.args.asked.limit c.args.asked.quantity (contents x.new.desk) (page x.new.report)
+    ((x.ensures.entered grid).came (capacity d) (length p.lines) p'.written (room_again c.args.asked.number t.result d d' c.args.standing p p' c.requires.fit c.requires.stands c.requires.wide out w.ensures.line w.ensures.written))

@@ -1,4 +1,5 @@
-use Rattle.std.proofs.Common.{sym, ap, arith}
+use Rattle.std.proofs.Common.{None, sym, ap, subst, arith}
+use Rattle.book.specs.Finding.{AtSpot, FoundBy}
 use Rattle.std.proofs.lemmas.Result.{err_from_is_err_and}
 use Rattle.trading.specs.declared.request.Request.TheVariants.{Cancel}
 use Rattle.trading.specs.Books.{is_ended}
@@ -26,7 +27,7 @@ returns-then-not-is_number-clause-made c lawful allows priced =
 pub returns-in_default-find_record-clause-made : goal.returns-in_default-find_record-clause-made
 returns-in_default-find_record-clause-made c lawful allows priced =
     let d = contents c.args.desk.now in
-    made_turned lawful allows priced d (Cancel c.args.number) c.args.report.now c.in_ok-check_ground.ensures _ (no_cancel_live c.args.number (book_of d) (not_ended _ c.in_default.not-Ended) (sym c.if-not-is_number.ensures) c.in_default-find_record.ensures)
+    made_turned lawful allows priced d (Cancel c.args.number) c.args.report.now c.in_ok-check_ground.ensures _ (no_cancel_live c.args.number (book_of d) (not_ended _ c.in_default.not-Ended) (sym c.if-not-is_number.ensures) (subst (λ b. FoundBy c.args.number b None) c.book.ensures c.in_default-find_record.ensures))
 
 pub returns-clause-made : goal.returns-clause-made
 returns-clause-made c lawful allows priced =
@@ -34,7 +35,7 @@ returns-clause-made c lawful allows priced =
     let x = c.take_out-quantity in
     let d' = contents x.new.desk in
     let s = c.in_ok-check_ground.ensures in
-    let at = c.in-Some.ensures in
+    let at = subst (λ b. AtSpot c.args.number b c.in-Some.spot) c.book.ensures c.in-Some.ensures in
     made_taken lawful allows priced d (Cancel c.args.number) c.args.report.now s _ d' _
     (may_cancel c.args.number (book_of d) (not_ended _ c.in_default.not-Ended) (sym c.if-not-is_number.ensures) _ at)
     (cancelled d d' c.args.number x.result c.args.report.now (x.ensures.out c.args.number at) (omega (arith, s.wide)))

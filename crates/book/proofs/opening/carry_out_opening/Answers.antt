@@ -3,17 +3,19 @@ use Rattle.std.proofs.lemmas.Bool.{and_parts}
 use Rattle.trading.specs.Desks.{book_of, capacity, counts_fit, queues_fit}
 use Rattle.lent.specs.Contents.{contents, page}
 use Rattle.sweeping.specs.Beside.{venue}
+use Rattle.sweeping.proofs.Following.{ready_fits}
 use Rattle.uncrossing.proofs.Fronting.{queues_in_front}
-use Rattle.book.proofs.Openings.{ready_page, opening_as, trading_unprinted, closed_unprinted, trading_printed, closed_printed}
+use Rattle.book.proofs.Openings.{opening_as, trading_unprinted, closed_unprinted, trading_printed, closed_printed}
 use Rattle.book.proofs.opening.carry_out_opening.Goals as goal
 
 pub print_and_close-requires : goal.print_and_close-requires
 print_and_close-requires g c =
     let d = contents c.args.desk.now in
-    let s = c.requires.sound in
+    let ready = c.requires.ready in
+    let counts = ready_fits (capacity d) d _ _ 0 ready in
     record {
-      fit = record { buys = s.counts.buys; sells = s.counts.sells; stops = s.counts.stops; lines = omega (arith, s.few, s.wide, c.requires.fresh) };
-      fronts = queues_in_front c.in-Printed-Close.price (book_of d) (and_parts (counts_fit d) (queues_fit (book_of d)) s.formed).1;
+      fit = record { buys = counts.buys; sells = counts.sells; stops = counts.stops; lines = omega (arith, ready.lines) };
+      fronts = queues_in_front c.in-Printed-Close.price (book_of d) (and_parts (counts_fit d) (queues_fit (book_of d)) c.requires.formed).1;
     }
 
 pub returns-in-NoPrice-Trading-clause-came : goal.returns-in-NoPrice-Trading-clause-came
@@ -50,4 +52,4 @@ returns-in-Printed-Close-clause-came g c grid =
     let x = c.print_and_close in
     let v = venue grid (g.C.Collar.allows c.args.collar.now) in
     let i = c.in-Printed-Close in
-    opening_as (capacity d) v _ _ (book_of d) _ _ d p (contents x.new.desk) (page x.new.report) i.is-1 i.is-0 (closed_printed (capacity d) v d p (contents x.new.desk) (page x.new.report) i.price i.volume-0 (x.ensures.came (capacity d) (ready_page d p c.requires.sound c.requires.fresh)))
+    opening_as (capacity d) v _ _ (book_of d) _ _ d p (contents x.new.desk) (page x.new.report) i.is-1 i.is-0 (closed_printed (capacity d) v d p (contents x.new.desk) (page x.new.report) i.price i.volume-0 (x.ensures.came (capacity d) c.requires.ready))

@@ -3,17 +3,19 @@ use Rattle.std.proofs.lemmas.Bool.{and_parts}
 use Rattle.trading.specs.Desks.{book_of, capacity, counts_fit, queues_fit}
 use Rattle.lent.specs.Contents.{contents, page}
 use Rattle.sweeping.specs.Beside.{venue}
+use Rattle.sweeping.proofs.Following.{ready_fits}
 use Rattle.uncrossing.proofs.Fronting.{queues_in_front}
-use Rattle.book.proofs.Openings.{ready_page, ready_to_release, released_front}
+use Rattle.book.proofs.Openings.{ready_to_release, released_front}
 use Rattle.book.proofs.opening.open_at_price.Goals as goal
 
 pub print_and_open-requires : goal.print_and_open-requires
 print_and_open-requires g c =
     let d = contents c.args.desk.now in
-    let s = c.requires.sound in
+    let ready = c.requires.ready in
+    let counts = ready_fits (capacity d) d _ _ 0 ready in
     record {
-      fit = record { buys = s.counts.buys; sells = s.counts.sells; lines = omega (arith, s.few, s.wide, c.requires.fresh) };
-      fronts = queues_in_front c.args.price (book_of d) (and_parts (counts_fit d) (queues_fit (book_of d)) s.formed).1;
+      fit = record { buys = counts.buys; sells = counts.sells; lines = omega (arith, ready.lines) };
+      fronts = queues_in_front c.args.price (book_of d) (and_parts (counts_fit d) (queues_fit (book_of d)) c.requires.formed).1;
     }
 
 pub release_stops-requires : goal.release_stops-requires
@@ -21,7 +23,7 @@ release_stops-requires g c =
     let d = contents c.args.desk.now in
     let p = page c.args.report.now in
     let x = c.print_and_open in
-    let ready = ready_page d p c.requires.sound c.requires.fresh in
+    let ready = c.requires.ready in
     ready_to_release d (contents x.new.desk) _ p (page x.new.report) ready (x.ensures.came (capacity d) ready) x.ensures.fewer x.ensures.kept.report.lines_length
 
 pub returns-clause-came : goal.returns-clause-came
@@ -30,6 +32,6 @@ returns-clause-came g c grid =
     let p = page c.args.report.now in
     let x = c.print_and_open in
     let y = c.release_stops in
-    let ready = ready_page d p c.requires.sound c.requires.fresh in
+    let ready = c.requires.ready in
     released_front d (contents x.new.desk) _ p (page x.new.report) ready (x.ensures.came (capacity d) ready) x.ensures.fewer
     (venue grid (g.C.Collar.allows c.args.collar.now)) (contents y.new.desk) (page y.new.report) (y.ensures.released grid)
