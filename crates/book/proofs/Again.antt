@@ -1,5 +1,5 @@
 -- An order that enters again.
-use Rattle.std.proofs.Common.{◌≡◌, ℕ, ◌+◌, ◌≤◌, [], ◌∷◌, length, set, ap, ◌∙◌, subst, arith, length-take}
+use Rattle.std.proofs.Common.{◌≡◌, ℕ, ◌+◌, ◌≤◌, [], ◌∷◌, length, set, ap, ◌∙◌, subst, arith}
 use Rattle.rules.specs.declared.order.Order.{Order}
 use Rattle.trading.specs.declared.report.ReportLine.TheVariants.{Lapse}
 use Rattle.trading.specs.Books.{Venue, Book, held, blank_stop}
@@ -10,23 +10,16 @@ use Rattle.trading.specs.Moves.{written_at, Ready}
 use Rattle.lent.specs.Contents.{Page}
 use Rattle.lent.specs.Moves.{Comes}
 use Rattle.sessions.proofs.Balance.{count_length, size_held, enters_balanced}
-use Rattle.sweeping.proofs.Following.{written_one, came_after, ready_later, same_capacity}
+use Rattle.lent.proofs.Pages.{written_one}
+use Rattle.sweeping.proofs.Following.{came_after, ready_later, same_capacity}
 use Rattle.book.specs.declared.finding.Spot.{Spot}
 use Rattle.book.specs.declared.finding.Spot.TheVariants.{Buys, Sells, Stops}
 use Rattle.book.specs.declared.amendment.Standing.{Standing}
 use Rattle.book.specs.Finding.{AtSpot}
-use Rattle.book.specs.Out.{Fit, Within, Out}
+use Rattle.book.specs.Out.{Fit, Out}
 use Rattle.book.specs.Amending.{place_as, Stands, AgainCame}
 
--- an order stands within its queue, and its quantity is that of its place
-pub stands_within : (n : ℕ) (d : Desk) (x : Standing) → Fit d → Stands n (book_of d) x → Within d x.spot
-stands_within n d x fit s = by_spot x.spot s.at s.is
-  where
-    by_spot : (spot : Spot) → AtSpot n (book_of d) spot → place n (book_of d) ≡ place_as spot x.order → Within d spot
-    by_spot (Buys i) at is = omega (arith, at.0.within, length-take d.state.buys d.buys, fit.counts.buys)
-    by_spot (Sells i) at is = omega (arith, at.0.within, length-take d.state.sells d.sells, fit.counts.sells)
-    by_spot (Stops i) at is = absurd (let p = at.1 blank_stop in let z : ◌≡◌ {A = ℕ} 0 1 = cc in omega arith)
-
+-- the quantity of an order is that of its place
 placed_quantity : (n : ℕ) (b : Book) (x : Standing) → Stands n b x → quantity_at (place n b) ≡ x.order.«open»
 placed_quantity n b x s = by_spot x.spot s.at s.is
   where

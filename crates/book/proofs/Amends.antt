@@ -1,10 +1,10 @@
 -- Which check refuses an amendment.
-use Rattle.std.proofs.Common.{◌≡◌, ℕ, ◌<◌, true, false, eqb, get_or, Some, None, ap, ◌∙◌, arith}
+use Rattle.std.proofs.Common.{◌≡◌, ℕ, true, false, eqb, get_or, Some, None, ap, arith}
 use mathlib.Core.Bool.{beq}
 use Rattle.trading.specs.declared.fault.BookFault.TheVariants.{Unpaired, LimitUnlawful}
 use Rattle.trading.specs.Books.{Book, Venue, is_ended, blank_order, blank_stop}
 use Rattle.trading.specs.Ranges.{is_number, is_quantity}
-use Rattle.trading.specs.Calls.{place, is_order, limit_at, in_buys, in_sells, first_fault, amend_checks, unlawful, why_unlawful}
+use Rattle.trading.specs.Calls.{place, is_order, limit_at, first_fault, amend_checks, unlawful, why_unlawful}
 use Rattle.book.specs.declared.finding.Spot.{Spot}
 use Rattle.book.specs.declared.finding.Spot.TheVariants.{Buys, Sells, Stops}
 use Rattle.book.specs.declared.amendment.Standing.{Standing}

@@ -1,5 +1,5 @@
 -- An uncrossing has come about.
-use Rattle.std.proofs.Common.{◌≡◌, ℕ, Bool, List, length, sym, ap, ◌∙◌, subst, arith}
+use Rattle.std.proofs.Common.{◌≡◌, ℕ, Bool, List, length, sym, ap, ◌∙◌, subst}
 use Rattle.rules.specs.declared.opening.Opening.{Opening}
 use Rattle.rules.specs.Candidates.{grid_of}
 use Rattle.rules.specs.Openings.{opening}
@@ -15,15 +15,9 @@ use Rattle.trading.specs.Carried.{Took}
 use Rattle.lent.specs.Contents.{Page}
 use Rattle.lent.specs.Moves.{Comes}
 use Rattle.checks.specs.Ground.{Standing}
-use Rattle.pricing.specs.Few.{Few}
 use Rattle.sessions.proofs.Sessions.{uncrossed_outcome}
-use Rattle.sweeping.proofs.Following.{held_counted}
 use Rattle.book.specs.Opened.{wholly, OpeningCame}
 use Rattle.book.proofs.Coming.{Fresh, told, effect_took}
-
--- no book holds more orders than an auction takes
-pub few_orders : (d : Desk) (room : ℕ) → Standing d room → Few (book_of d).buys × Few (book_of d).sells
-few_orders d room s = let h = held_counted d s.counts in (omega (arith, s.few), omega (arith, s.few))
 
 module _ (lawful : ℕ → Bool) (allows : ℕ → ℕ → ℕ → Bool) (next : Next) (d : Desk) (report : List ReportLine) (p : Page) (d' : Desk) (p' : Page) where
   abbrev v : Venue

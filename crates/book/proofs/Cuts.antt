@@ -4,12 +4,12 @@ use lib.Seq.{take-set-lt}
 use Rattle.std.proofs.lemmas.List.{length-take-le}
 use Rattle.std.proofs.lemmas.Bool.{ne_eqb, cond-false}
 use Rattle.trading.specs.declared.report.ReportLine.TheVariants.{Lapse}
-use Rattle.sweeping.proofs.Following.{written_one}
+use Rattle.lent.proofs.Pages.{written_one}
 use Rattle.rules.specs.declared.order.Order.{Order}
 use Rattle.trading.specs.Books.{with_orders, reduced, blank_order, blank_stop}
 use Rattle.trading.specs.Calls.{Place, nowhere, in_buys, in_sells, in_stops, place, cut, cut_by, reduced_by, lapse_above0}
 use Rattle.trading.specs.Desks.{Desk, book_of, capacity}
-use Rattle.lent.specs.Contents.{Page}
+use Rattle.lent.specs.Contents.{Page, Wrote}
 use Rattle.lent.specs.Moves.{ReadyFor, Comes}
 use Rattle.trading.specs.declared.state.State.{State}
 use Rattle.trading.specs.declared.report.ReportLine.{ReportLine}
@@ -20,7 +20,7 @@ use Rattle.book.specs.declared.finding.Spot.TheVariants.{Buys, Sells, Stops}
 use Rattle.book.specs.declared.amendment.Standing.{Standing}
 use Rattle.book.specs.Finding.{AtSpot}
 use Rattle.book.specs.Out.{Fit}
-use Rattle.book.specs.Amending.{place_as, Stands, Inside, desk_with, WroteAll}
+use Rattle.book.specs.Amending.{place_as, Stands, Inside, desk_with}
 
 -- the order at a place, and any where there is none
 abbrev order_in : Place → Order
@@ -36,7 +36,7 @@ with_quantity o q = record { number = o.number; side = o.side; limit = o.limit; 
 cut_is : (o : Order) (q : ℕ) → q ≤ o.«open» → with_quantity o q ≡ reduced o (o.«open» - q)
 cut_is o q le = let e : q ≡ o.«open» - (o.«open» - q) = omega arith in λ k. with_quantity o (e k)
 
-module _ (n q : ℕ) (d : Desk) (p p' : Page) (o : Order) (fit : Fit d) (le : q ≤ o.«open») (w : WroteAll (lapse_above0 n (o.«open» - q)) p p') where
+module _ (n q : ℕ) (d : Desk) (p p' : Page) (o : Order) (fit : Fit d) (le : q ≤ o.«open») (w : Wrote (lapse_above0 n (o.«open» - q)) p p') where
   abbrev CutTo : Spot → Type 0
   CutTo spot = Comes (capacity d) (cut n q (book_of d) (place n (book_of d)) o) d p (desk_with spot (with_quantity o q) d) p'
 
@@ -50,7 +50,7 @@ module _ (n q : ℕ) (d : Desk) (p p' : Page) (o : Order) (fit : Fit d) (le : q 
       record {
         book = ap (λ xs. with_orders xs b.sells b) (take-set-lt d.state.buys d.buys i (with_quantity o q) within ∙ sym changed) ∙ sym (ap (cut_by n (o.«open» - q) b) is);
         counts = record { buys = omega (arith, fit.counts.buys, long); sells = fit.counts.sells; stops = fit.counts.stops };
-        lines = w.page;
+        lines = w.lines;
         place = w.place;
         beyond = record { buys_length = long; sells_length = refl; stops_length = refl; buys = drop-set-lt (capacity d) d.buys i (with_quantity o q) (omega (arith, fit.few)); sells = refl; stops = refl };
       }
@@ -65,7 +65,7 @@ module _ (n q : ℕ) (d : Desk) (p p' : Page) (o : Order) (fit : Fit d) (le : q 
       record {
         book = ap (λ xs. with_orders b.buys xs b) (take-set-lt d.state.sells d.sells i (with_quantity o q) within ∙ sym changed) ∙ sym (ap (cut_by n (o.«open» - q) b) is);
         counts = record { buys = fit.counts.buys; sells = omega (arith, fit.counts.sells, long); stops = fit.counts.stops };
-        lines = w.page;
+        lines = w.lines;
         place = w.place;
         beyond = record { buys_length = refl; sells_length = long; stops_length = refl; buys = refl; sells = drop-set-lt (capacity d) d.sells i (with_quantity o q) (omega (arith, fit.few)); stops = refl };
       }
@@ -85,10 +85,10 @@ stands_inside n d x s = by_spot x.spot s.at s.is
     by_spot (Stops i) at is = absurd (let p = at.1 blank_stop in let z : ◌≡◌ {A = ℕ} 0 1 = cc in omega arith)
 
 -- a lapse of more than nothing is written
-pub wrote_lapse : (n q : ℕ) (p p' : Page) → 0 < q → p.written < length p.lines → p'.lines ≡ set p.lines p.written (Lapse n q) → p'.written ≡ p.written + 1 → WroteAll (lapse_above0 n q) p p'
+pub wrote_lapse : (n q : ℕ) (p p' : Page) → 0 < q → p.written < length p.lines → p'.lines ≡ set p.lines p.written (Lapse n q) → p'.written ≡ p.written + 1 → Wrote (lapse_above0 n q) p p'
 wrote_lapse n q p p' some room line next =
     let e : eqb q 0 ≡ false = ne_eqb q 0 (omega arith) in
-    subst (λ ls. WroteAll ls p p') (sym (cond-false (eqb q 0) _ _ e)) (record { page = line ∙ written_one p.lines p.written (Lapse n q) room; place = next })
+    subst (λ ls. Wrote ls p p') (sym (cond-false (eqb q 0) _ _ e)) (record { lines = line ∙ written_one p.lines p.written (Lapse n q) room; place = next })
 
 -- putting an order leaves the state
 pub same_state : (spot : Spot) (o : Order) (d : Desk) → (desk_with spot o d).state ≡ d.state

@@ -14,9 +14,10 @@ use Rattle.lent.specs.Contents.{Page}
 use Rattle.lent.specs.Moves.{ReadyFor, Comes}
 use Rattle.sessions.proofs.Balance.{count_length, size_held, entered_balanced}
 use Rattle.sweeping.specs.Beside.{Moves}
-use Rattle.sweeping.proofs.Following.{written_none, held_counted, ready_later, lines_fit, same_capacity}
+use Rattle.lent.proofs.Pages.{written_none}
+use Rattle.sweeping.proofs.Following.{held_counted, ready_later, lines_fit, same_capacity}
 use Rattle.book.specs.Entering.{StopCame, queue_checks}
-use Rattle.book.proofs.Leaves.{past_later}
+use Rattle.lent.proofs.Tables.{past_later}
 use Rattle.std.proofs.lemmas.Bool.{leb-false}
 use Rattle.trading.specs.declared.answer.Outcome.TheVariants.{Accepted}
 use Rattle.trading.specs.declared.request.Request.TheVariants.{Enter}

@@ -1,20 +1,15 @@
 -- A record that leaves a table's queue has left the book.
-use Rattle.std.proofs.Common.{◌≡◌, ℕ, ◌+◌, ◌-◌, ◌<◌, ◌≤◌, List, length, get_or, take, drop, sym, refl, ap, ◌∙◌, arith}
+use Rattle.std.proofs.Common.{◌≡◌, ℕ, ◌-◌, ◌<◌, List, length, get_or, take, drop, sym, refl, ap, ◌∙◌, arith}
 use Rattle.std.specs.List.{remove}
-use Rattle.std.proofs.lemmas.List.{drop-drop, get_or-take}
+use Rattle.std.proofs.lemmas.List.{get_or-take}
 use Rattle.rules.specs.declared.order.Order.{Order}
 use Rattle.trading.specs.declared.stop.StopOrder.{StopOrder}
 use Rattle.trading.specs.declared.state.State.{State}
 use Rattle.trading.specs.Calls.{taken_out, quantity_at}
 use Rattle.trading.specs.Desks.{Desk, desk_of, book_of, capacity}
+use Rattle.lent.proofs.Tables.{past_later}
 use Rattle.book.specs.declared.finding.Spot.TheVariants.{Buys, Sells, Stops}
 use Rattle.book.specs.Out.{Fit, OutOf}
-
--- what lies past a place lies past a later one
-pub past_later : {X : Type 0} (xs ys : List X) (m n : ℕ) → m ≤ n → drop m xs ≡ drop m ys → drop n xs ≡ drop n ys
-past_later xs ys m n le e =
-    let k : m + (n - m) ≡ n = omega arith in
-    ap (λ j. drop j xs) (sym k) ∙ sym (drop-drop (n - m) m xs) ∙ ap (drop (n - m)) e ∙ drop-drop (n - m) m ys ∙ ap (λ j. drop j ys) k
 
 -- a table whose queue the record at i has left
 pub record Gone {R : Type 0} (count i : ℕ) (table table' : List R) : Type 0 where

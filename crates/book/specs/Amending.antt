@@ -1,12 +1,11 @@
 -- An order that is to be amended, as code finds it.
-use Rattle.std.specs.Prelude.{◌≡◌, ℕ, ◌+◌, ◌<◌, ◌≤◌, List, length, Some, None, Result, MatchResult, slice_set}
+use Rattle.std.specs.Prelude.{◌≡◌, ℕ, ◌+◌, ◌<◌, ◌≤◌, length, Some, None, Result, MatchResult, slice_set}
 use Rattle.rules.specs.declared.order.Order.{Order}
 use Rattle.trading.specs.declared.fault.BookFault.{BookFault}
 use Rattle.trading.specs.Books.{Book, Venue}
-use Rattle.trading.specs.declared.report.ReportLine.{ReportLine}
 use Rattle.trading.specs.Calls.{Place, nowhere, in_buys, in_sells, place, first_fault, amend_checks, cut, enters_again}
 use Rattle.trading.specs.Desks.{Desk, desk_of, book_of, capacity}
-use Rattle.trading.specs.Moves.{written_at, Ready}
+use Rattle.trading.specs.Moves.{Ready}
 use Rattle.lent.specs.Contents.{Page}
 use Rattle.lent.specs.Moves.{Comes}
 use Rattle.book.specs.declared.finding.Spot.{Spot}
@@ -41,11 +40,6 @@ abbrev pub desk_with : Spot → Order → Desk → Desk
 desk_with (Buys i) o d = desk_of d.state (slice_set d.buys i o) d.sells d.stops
 desk_with (Sells i) o d = desk_of d.state d.buys (slice_set d.sells i o) d.stops
 desk_with (Stops i) o d = d
-
--- these lines follow those that were written: the page p became p'
-pub record WroteAll (lines : List ReportLine) (p p' : Page) : Type 0 where
-  pub page : p'.lines ≡ written_at p.lines p.written lines
-  pub place : p'.written ≡ p.written + length lines
 
 -- the order that stands under n has been cut to a quantity
 pub record CutCame (n quantity : ℕ) (x : Standing) (d : Desk) (p : Page) (d' : Desk) (p' : Page) : Type 0 where

@@ -4,11 +4,11 @@ ghost use Rattle.rules.specs.Candidates.{Grid};
 ghost use Rattle.trading.specs.declared.request.Request.TheVariants.{Amend};
 ghost use Rattle.trading.specs.Calls.{keeps_priority, lapse_above0};
 ghost use Rattle.trading.specs.Desks.{book_of, capacity};
-ghost use Rattle.lent.specs.Contents.{contents, page, DeskKept, ReportKept, Kept};
+ghost use Rattle.lent.specs.Contents.{contents, page, Wrote, DeskKept, ReportKept, Kept};
 ghost use Rattle.sessions.specs.Made.{Made};
 ghost use Rattle.sweeping.specs.Beside.{venue};
 ghost use Rattle.book.specs.Out.{Fit};
-ghost use Rattle.book.specs.Amending.{Inside, desk_with, Stands, WroteAll, CutCame, AgainCame};
+ghost use Rattle.book.specs.Amending.{Inside, desk_with, Stands, CutCame, AgainCame};
 
 use crate::amendment::{Amendment, Standing, check_amendment};
 use crate::answering::answer;
@@ -46,7 +46,7 @@ fn put_order(desk: &mut Desk<'_>, spot: Spot, order: Order)
 // Writes the lapse of what is taken off an order, if anything is.
 fn write_cut(report: &mut Report<'_>, number: u32, quantity: u32)
     requires { report.old.written < length report.old.lines.now }
-    ensures wrote { WroteAll (lapse_above0 number quantity) (page report.old) (page report.new) }
+    ensures wrote { Wrote (lapse_above0 number quantity) (page report.old) (page report.new) }
     ensures few { report.new.written ≤ report.old.written + 1 }
     ensures kept { ReportKept report.old report.new }
 {
@@ -56,12 +56,7 @@ fn write_cut(report: &mut Report<'_>, number: u32, quantity: u32)
 }
 
 // An order is cut where it stands; what is taken off lapses.
-fn cut_order(
-    desk: &mut Desk<'_>,
-    report: &mut Report<'_>,
-    standing: Standing,
-    asked: Amendment,
-)
+fn cut_order(desk: &mut Desk<'_>, report: &mut Report<'_>, standing: Standing, asked: Amendment)
     requires inside { Inside standing.spot (contents desk.old) }
     requires cut { asked.quantity ≤ standing.order.«open» }
     requires line { report.old.written < length report.old.lines.now }

@@ -1,6 +1,7 @@
 -- What lies in the tables and on the report that a call is lent.
-use Rattle.std.specs.Prelude.{◌≡◌, ℕ, List, length}
+use Rattle.std.specs.Prelude.{◌≡◌, ℕ, ◌+◌, List, length}
 use Rattle.trading.specs.declared.report.ReportLine.{ReportLine}
+use Rattle.trading.specs.Moves.{written_at}
 use Rattle.trading.specs.Desks as desks
 use Rattle.trading.specs.Books as books
 use Rattle.lent.specs.declared.desk.Desk.{Desk}
@@ -19,6 +20,11 @@ book_seen b = record { phase = b.phase; static = b.static_price; last = b.last; 
 pub record Page : Type 0 where
   pub lines : List ReportLine
   pub written : ℕ
+
+-- lines follow those of a page: p became p'
+pub record Wrote (ls : List ReportLine) (p p' : Page) : Type 0 where
+  pub lines : p'.lines ≡ written_at p.lines p.written ls
+  pub place : p'.written ≡ p.written + length ls
 
 abbrev pub page : Report → Page
 page r = record { lines = r.lines.now; written = r.written }

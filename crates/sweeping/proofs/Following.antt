@@ -1,6 +1,6 @@
 -- Moves that have come about, one after another.
-use Rattle.std.proofs.Common.{◌≡◌, ℕ, ◌+◌, ◌<◌, ◌≤◌, List, [], ◌∷◌, ◌++◌, length, take, drop, set, sym, refl, ap, ◌∙◌, subst, add-zero, add-one, arith}
-use Rattle.std.proofs.lemmas.List.{append_assoc, length-append, length-take-le, take_at, drop_at, drop-drop, take-append-drop, set_split}
+use Rattle.std.proofs.Common.{◌≡◌, ℕ, ◌+◌, ◌≤◌, List, [], length, refl, ap, ◌∙◌, subst, arith}
+use Rattle.std.proofs.lemmas.List.{length-append, length-take-le}
 use Rattle.rules.specs.declared.order.Order.{Order}
 use Rattle.trading.specs.declared.report.ReportLine.{ReportLine}
 use Rattle.trading.specs.Books.{Venue, Book, held}
@@ -8,35 +8,8 @@ use Rattle.trading.specs.Sweeps.{Moved, moved, after, sweeps, release_all, then_
 use Rattle.trading.specs.Desks.{Desk, book_of, capacity}
 use Rattle.trading.specs.Carried.{CountsFit}
 use Rattle.trading.specs.Moves.{written_at, counted, Ready, Beyond, Came}
+use Rattle.lent.proofs.Pages.{written_none, written_after}
 use Rattle.sessions.proofs.Balance.{count_length, size_held, sweeps_balanced}
-
--- ---- reports
-
--- no lines, one line
-pub written_none : (report : List ReportLine) (at : ℕ) → report ≡ written_at report at []
-written_none report at = sym (ap (λ n. take at report ++ drop n report) (add-zero at) ∙ take-append-drop at report)
-
-pub written_one : (report : List ReportLine) (at : ℕ) (line : ReportLine) → at < length report → set report at line ≡ written_at report at (line ∷ [])
-written_one report at line h = set_split report at line h ∙ ap (λ n. take at report ++ line ∷ drop n report) (sym (add-one at))
-
--- lines, and then more lines
-pub written_after : (report : List ReportLine) (at : ℕ) (ls ms : List ReportLine) → at + length ls ≤ length report → written_at (written_at report at ls) (at + length ls) ms ≡ written_at report at (ls ++ ms)
-written_after report at ls ms room =
-    let k = at + length ls in
-    let p = take at report in
-    let rest = drop k report in
-    let front : length p ≡ at = length-take-le at report (omega arith) in
-    let long : length (p ++ ls) ≡ k = omega (arith, length-append p ls) in
-    let split = sym (append_assoc p ls rest) in
-    let start : take k (p ++ (ls ++ rest)) ≡ p ++ ls = ap (take k) split ∙ take_at (p ++ ls) rest k long in
-    let past : drop k (p ++ (ls ++ rest)) ≡ rest = ap (drop k) split ∙ drop_at (p ++ ls) rest k long in
-    let end : drop (k + length ms) (p ++ (ls ++ rest)) ≡ drop (k + length ms) report = sym (drop-drop (length ms) k (p ++ (ls ++ rest))) ∙ ap (drop (length ms)) past ∙ drop-drop (length ms) k report in
-    let count : k + length ms ≡ at + length (ls ++ ms) = omega (arith, length-append ls ms) in
-    ap (λ xs. xs ++ (ms ++ drop (k + length ms) (p ++ (ls ++ rest)))) start
-    ∙ ap (λ xs. (p ++ ls) ++ (ms ++ xs)) end
-    ∙ ap (λ j. (p ++ ls) ++ (ms ++ drop j report)) count
-    ∙ append_assoc p ls (ms ++ drop (at + length (ls ++ ms)) report)
-    ∙ ap (λ xs. p ++ xs) (sym (append_assoc ls ms (drop (at + length (ls ++ ms)) report)))
 
 -- ---- desks
 

@@ -10,8 +10,8 @@ use Rattle.trading.specs.Sweeps.{moved, join}
 use Rattle.trading.specs.Desks.{Desk, desk_of, book_of}
 use Rattle.lent.specs.Contents.{Page}
 use Rattle.sweeping.specs.Beside.{Moves}
-use Rattle.sweeping.proofs.Turns.{past_later}
-use Rattle.sweeping.proofs.Following.{written_none}
+use Rattle.lent.proofs.Tables.{past_later}
+use Rattle.lent.proofs.Pages.{written_none}
 
 join_as : (o : Order) (b : Book) (side : Side) → o.side ≡ side → join o b ≡ with_own_queue side (joined order_ahead o (own_queue side b)) b
 join_as o b side e = ap (λ side. with_own_queue side (joined order_ahead o (own_queue side b)) b) e

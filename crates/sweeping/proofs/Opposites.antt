@@ -17,7 +17,7 @@ use Rattle.sweeping.specs.declared.tables.AfterSweep.{AfterSweep}
 use Rattle.sweeping.specs.declared.orders.Unsettled.{Unsettled}
 use Rattle.sweeping.specs.Steps.{QueueSwept}
 use Rattle.sweeping.specs.Beside.{venue, Roomy, Moves, SweptBy, swept_in, unsettled}
-use Rattle.sweeping.proofs.Turns.{past_later}
+use Rattle.lent.proofs.Tables.{past_later}
 use Rattle.sweeping.proofs.Following.{came_after}
 
 -- the state once the sells, or the buys, have been swept

@@ -19,7 +19,7 @@ use Rattle.sessions.proofs.Finding.{left_shorter}
 use Rattle.queue.specs.Places.{FirstAt}
 use Rattle.sweeping.specs.Beside.{venue, Moves}
 use Rattle.sweeping.specs.Releases.{blank_stop, ReleasedAt}
-use Rattle.sweeping.proofs.Turns.{past_later}
+use Rattle.lent.proofs.Tables.{past_later}
 use Rattle.sweeping.proofs.Following.{beyond_after, came_none, came_released, ready_fits, ready_later, lines_fit, sweeps_fit}
 
 -- ---- a stop leaves, and sweeps

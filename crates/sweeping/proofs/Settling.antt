@@ -14,7 +14,8 @@ use Rattle.lent.specs.Contents.{Page}
 use Rattle.lent.specs.Moves.{Comes}
 use Rattle.sweeping.specs.declared.orders.Unsettled.{Unsettled}
 use Rattle.sweeping.specs.Beside.{Moves}
-use Rattle.sweeping.proofs.Following.{written_one, came_none, ready_fits}
+use Rattle.lent.proofs.Pages.{written_one}
+use Rattle.sweeping.proofs.Following.{came_none, ready_fits}
 
 lapses : (t : Order) (b : Book) (rest : ℕ) (e : Ending) → (e ≡ Filled → ⊥) → settled false t b rest e ≡ moved b (Lapse t.number rest ∷ [])
 lapses t b rest Filled unfilled = absurd (unfilled refl)

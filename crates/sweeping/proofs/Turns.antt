@@ -1,16 +1,15 @@
 -- One turn of the loop of a sweep, and its end.
-use Rattle.std.proofs.Common.{◌≡◌, ℕ, suc, ◌+◌, ◌-◌, ◌<◌, ◌≤◌, min, Bool, List, [], ◌∷◌, length, get_or, take, drop, sym, ap, ◌∙◌, add-one, arith}
-use lib.Seq.{sets, sets-eq}
-use Rattle.std.proofs.lemmas.List.{append_assoc, drop-drop, length-take-le, length-set}
+use Rattle.std.proofs.Common.{◌≡◌, ℕ, ◌+◌, ◌<◌, ◌≤◌, min, Bool, List, length, get_or, drop, sym, ap, ◌∙◌, add-one, arith}
+use Rattle.std.proofs.lemmas.List.{length-take-le, length-set}
 use Rattle.rules.specs.declared.order.Order.{Order}
-use Rattle.trading.specs.declared.report.ReportLine.{ReportLine}
 use Rattle.trading.specs.declared.sweep.Ending.{Ending}
 use Rattle.trading.specs.Sweeps.{Swept, stopped, sweep}
-use Rattle.trading.specs.Moves.{written_at}
 use Rattle.sessions.proofs.Sweeping.{sweep_by}
 use Rattle.queue.specs.declared.queue.Queue.{Queue}
 use Rattle.queue.specs.Lent.{listed, Kept}
 use Rattle.lent.specs.Contents.{Page}
+use Rattle.lent.proofs.Tables.{past_later}
+use Rattle.lent.proofs.Pages.{page_after, place_after_is, sets_written}
 use Rattle.sweeping.specs.declared.trade.AfterTrade.{AfterTrade}
 use Rattle.sweeping.specs.declared.tables.AfterSweep.{AfterSweep}
 use Rattle.sweeping.specs.Steps.{blank, trade_with, Met, TradedAt, QueueSwept}
@@ -23,13 +22,8 @@ pub record Finish : Type 0 where
   pub ending : Ending
   pub page : Page
 
--- the place after lines that are written from a place on
-abbrev place_after : ℕ → List ReportLine → ℕ
-place_after i [] = i
-place_after i (y ∷ ys) = place_after (suc i) ys
-
 abbrev pub finish : Page → Swept → Finish
-finish p s = record { queue = s.queue; rest = s.rest; last = s.last; ending = s.ending; page = record { lines = sets p.lines p.written s.trades; written = place_after p.written s.trades } }
+finish p s = record { queue = s.queue; rest = s.rest; last = s.last; ending = s.ending; page = page_after p s.trades }
 
 -- a sweep of the queue a is under way: what is still to come, from the queue b on, leads where all of it leads
 pub record Along (allows : ℕ → ℕ → Bool) (t : Order) (price : ℕ) (a : Queue Order) (p : Page) (rest last : ℕ) (b : Queue Order) (p' : Page) : Type 0 where
@@ -38,12 +32,6 @@ pub record Along (allows : ℕ → ℕ → Bool) (t : Order) (price : ℕ) (a : 
   pub count : b.count ≤ a.count
   pub room : 0 < rest → p'.written + b.count ≤ length p'.lines
   pub table : Kept a b
-
--- what lies past a place lies past a later one
-pub past_later : {X : Type 0} (xs ys : List X) (m n : ℕ) → m ≤ n → drop m xs ≡ drop m ys → drop n xs ≡ drop n ys
-past_later xs ys m n le e =
-    let k : m + (n - m) ≡ n = omega arith in
-    ap (λ j. drop j xs) (sym k) ∙ sym (drop-drop (n - m) m xs) ∙ ap (drop (n - m)) e ∙ drop-drop (n - m) m ys ∙ ap (λ j. drop j ys) k
 
 -- one trade more
 pub turn : (allows : ℕ → ℕ → Bool) (t : Order) (price : ℕ) (a b b' : Queue Order) (p p' p'' : Page) (rest last i : ℕ) (r : AfterTrade)
@@ -70,14 +58,6 @@ trades_fit allows t = sweep_by allows t (λ rest last os s. length s.trades ≤ 
     (λ rest last o os s d h. omega arith)
     (λ rest last o os s d w a l h. omega arith)
     (λ rest last o os z d w a l. omega arith)
-
-place_after_is : (i : ℕ) (ys : List ReportLine) → place_after i ys ≡ i + length ys
-place_after_is i [] = omega arith
-place_after_is i (y ∷ ys) = omega (arith, place_after_is (suc i) ys)
-
--- the lines of the report as a whole
-sets_written : (report lines : List ReportLine) (at : ℕ) → at + length lines ≤ length report → sets report at lines ≡ written_at report at lines
-sets_written report lines at h = sets-eq lines report at h ∙ append_assoc (take at report) lines (drop (at + length lines) report)
 
 -- where nothing is left to do, the sweep has come about
 pub finished : (allows : ℕ → ℕ → Bool) (t : Order) (price : ℕ) (a b : Queue Order) (p p' : Page) (r : AfterSweep)

@@ -1,5 +1,5 @@
 -- The release of stops, in memory.
-use Rattle.std.specs.Prelude.{◌≡◌, ℕ, Bool, true, List, None, Option, MatchOption, slice_index_or}
+use Rattle.std.specs.Prelude.{◌≡◌, ℕ, Bool, true, None, Option, MatchOption, slice_index_or}
 use Rattle.std.specs.List.{remove}
 use Rattle.rules.specs.declared.order.Side.TheVariants.{Buy}
 use Rattle.rules.specs.Candidates.{Grid}

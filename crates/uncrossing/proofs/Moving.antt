@@ -9,16 +9,15 @@ use Rattle.trading.specs.Desks.{Desk, desk_of, book_of}
 use Rattle.trading.specs.Moves.{Ready}
 use Rattle.trading.specs.Sweeps.{moved}
 use Rattle.trading.specs.Uncrossings.{vfu_lapses, without_vfu, printed_at}
-use Rattle.lent.specs.Contents.{Page}
+use Rattle.lent.specs.Contents.{Page, Wrote}
 use Rattle.lent.specs.Moves.{Comes}
 use Rattle.uncrossing.specs.declared.pairing.Met.{Met}
 use Rattle.uncrossing.specs.Sifted.{SiftedTo}
-use Rattle.uncrossing.specs.Lines.{Wrote}
 use Rattle.uncrossing.specs.Fits.{RestFits}
 use Rattle.uncrossing.specs.Meetings.{paired_at}
 use Rattle.uncrossing.specs.Prints.{book_from, PrintedAs}
-use Rattle.uncrossing.proofs.Spans.{past_later}
-use Rattle.uncrossing.proofs.Written.{wrote_both}
+use Rattle.lent.proofs.Tables.{past_later}
+use Rattle.lent.proofs.Pages.{wrote_both}
 
 -- the VFU orders of what is left of both queues have lapsed
 pub opens : (met : Met) (d : Desk) (buys' sells' : List Order) (p p1 p' : Page) (k m n : ℕ)

@@ -9,7 +9,7 @@ use Rattle.lent.specs.Contents.{Page}
 use Rattle.uncrossing.specs.Spans.{span, blank_order}
 use Rattle.uncrossing.specs.Sifted.{vfu_lines, SiftedTo}
 use Rattle.uncrossing.proofs.Spans.{span_cons, span_none, span_set_before}
-use Rattle.uncrossing.proofs.Written.{page_after, wrote_one, wrote_all}
+use Rattle.lent.proofs.Pages.{page_after, wrote_one, wrote_all}
 
 -- up to i, of a table xs and a page p: `count` orders last. What is left leads where the whole span leads.
 pub record Sifting (xs : List Order) (from to : ℕ) (p : Page) (ys : List Order) (p' : Page) (i count : ℕ) : Type 0 where

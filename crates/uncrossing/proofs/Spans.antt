@@ -1,6 +1,6 @@
 -- Parts of tables.
-use Rattle.std.proofs.Common.{◌≡◌, ℕ, suc, ◌+◌, ◌-◌, ◌<◌, ◌≤◌, List, [], ◌∷◌, length, get_or, take, drop, set, sym, ap, ◌∙◌, arith}
-use Rattle.std.proofs.lemmas.List.{drop_more, drop-set, drop-set-lt, drop-drop}
+use Rattle.std.proofs.Common.{◌≡◌, ℕ, suc, ◌+◌, ◌-◌, ◌<◌, ◌≤◌, List, [], ◌∷◌, length, get_or, take, set, ap, ◌∙◌, arith}
+use Rattle.std.proofs.lemmas.List.{drop_more, drop-set, drop-set-lt}
 use Rattle.uncrossing.specs.Spans.{span}
 
 module _ {X : Type 0} where
@@ -19,9 +19,3 @@ module _ {X : Type 0} where
 
   pub span_none : (xs : List X) (i n : ℕ) → n ≤ i → span i n xs ≡ []
   span_none xs i n h = let e : n - i ≡ 0 = omega arith in rw e
-
-  -- what lies past a place lies past a later one
-  pub past_later : (xs ys : List X) (m n : ℕ) → m ≤ n → drop m xs ≡ drop m ys → drop n xs ≡ drop n ys
-  past_later xs ys m n le e =
-      let k : m + (n - m) ≡ n = omega arith in
-      ap (λ j. drop j xs) (sym k) ∙ sym (drop-drop (n - m) m xs) ∙ ap (drop (n - m)) e ∙ drop-drop (n - m) m ys ∙ ap (λ j. drop j ys) k

@@ -16,7 +16,7 @@ use Rattle.uncrossing.specs.Fronts.{Fronted, InFront}
 use Rattle.uncrossing.specs.Fits.{QueuesStart, orders_left}
 use Rattle.uncrossing.specs.Meetings.{firsts_meet, NextPair, paired_at, TookOff, MetBy}
 use Rattle.uncrossing.proofs.Spans.{span_cons, span_set}
-use Rattle.uncrossing.proofs.Written.{page_after, wrote_all}
+use Rattle.lent.proofs.Pages.{page_after, wrote_all}
 
 -- ---- the rule's pairing
 

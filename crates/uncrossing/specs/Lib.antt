@@ -1,5 +1,4 @@
 pub mod Spans
-pub mod Lines
 pub mod Fits
 pub mod Fronts
 pub mod Meetings

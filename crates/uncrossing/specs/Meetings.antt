@@ -5,10 +5,9 @@ use Rattle.rules.specs.Accepts.{accepts_buying, accepts_selling}
 use Rattle.trading.specs.Books.{reduced}
 use Rattle.trading.specs.Desks.{Desk}
 use Rattle.trading.specs.Uncrossings.{Paired, pairs}
-use Rattle.lent.specs.Contents.{Page}
+use Rattle.lent.specs.Contents.{Page, Wrote}
 use Rattle.uncrossing.specs.declared.pairing.Met.{Met}
 use Rattle.uncrossing.specs.Spans.{span, blank_order}
-use Rattle.uncrossing.specs.Lines.{Wrote}
 use Rattle.uncrossing.specs.Fits.{orders_left}
 
 -- the first of each queue accept the price

@@ -3,8 +3,7 @@ use Rattle.std.specs.Prelude.{◌≡◌, ℕ, ◌+◌, ◌-◌, ◌≤◌, List,
 use Rattle.rules.specs.declared.order.Order.{Order}
 use Rattle.trading.specs.declared.report.ReportLine.{ReportLine}
 use Rattle.trading.specs.Uncrossings.{lapse_of, lapses_by, lapsing, lasting}
-use Rattle.lent.specs.Contents.{Page}
-use Rattle.uncrossing.specs.Lines.{Wrote}
+use Rattle.lent.specs.Contents.{Page, Wrote}
 use Rattle.uncrossing.specs.Spans.{span}
 
 -- the lapse lines of the VFU orders of a queue

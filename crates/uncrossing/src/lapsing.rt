@@ -2,8 +2,7 @@
 ghost use Rattle.std.specs.Prelude.{◌≡◌, ◌+◌, ◌≤◌, length};
 ghost use Rattle.trading.specs.declared.report.ReportLine.{ReportLine};
 ghost use Rattle.trading.specs.Uncrossings.{lapse_of, stop_lapse, lapses_by};
-ghost use Rattle.lent.specs.Contents.{page, ReportKept};
-ghost use Rattle.uncrossing.specs.Lines.{Wrote};
+ghost use Rattle.lent.specs.Contents.{page, Wrote, ReportKept};
 
 use lent::Report;
 use rules::Order;

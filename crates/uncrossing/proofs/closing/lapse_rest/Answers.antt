@@ -1,5 +1,5 @@
 use Rattle.std.proofs.Common.{arith}
-use Rattle.uncrossing.proofs.Written.{wrote_both}
+use Rattle.lent.proofs.Pages.{wrote_both}
 use Rattle.uncrossing.proofs.closing.lapse_rest.Goals as goal
 
 pub returns-clause-wrote : goal.returns-clause-wrote

@@ -1,7 +1,7 @@
 use Rattle.std.proofs.Common.{◌≡◌, ◌+◌, drop}
 use Rattle.trading.specs.Uncrossings.{lapses_by}
 use Rattle.lent.specs.Contents.{page, ReportKept}
-use Rattle.uncrossing.proofs.Written.{page_after}
+use Rattle.lent.proofs.Pages.{page_after}
 use Rattle.uncrossing.proofs.lapsing.write_lapses.Given as goal
 
 -- the lines that are left lead where all lines lead
