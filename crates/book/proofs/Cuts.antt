@@ -96,6 +96,12 @@ same_state (Buys i) o d = refl
 same_state (Sells i) o d = refl
 same_state (Stops i) o d = refl
 
+-- and the stops
+pub same_stops : (spot : Spot) (o : Order) (d : Desk) → (desk_with spot o d).stops ≡ d.stops
+same_stops (Buys i) o d = refl
+same_stops (Sells i) o d = refl
+same_stops (Stops i) o d = refl
+
 -- once an order is cut there is room for the release of stops
 pub ready_after_cut : (d d' : Desk) (report : List ReportLine) (p p' : Page) → Sound d (length report) → Fresh report p → d'.state ≡ d.state
     → length d'.buys ≡ length d.buys → length d'.sells ≡ length d.sells → length d'.stops ≡ length d.stops → length p'.lines ≡ length p.lines → p'.written ≤ p.written + 1 → ReadyFor 0 d' p'

@@ -10,14 +10,14 @@ use Rattle.trading.specs.Books.{Venue, Book, held, is_continuous, is_vfu, with_s
 use Rattle.trading.specs.Sweeps.{moved, join, sweeps, release_all}
 use Rattle.trading.specs.Calls.{is_stop, stop_of, order_of, enters_as, stop_joins, entered, first_fault, enter_effect, effect_of}
 use Rattle.trading.specs.Desks.{Desk, desk_of, book_of, capacity}
-use Rattle.lent.specs.Contents.{Page}
+use Rattle.lent.specs.Contents.{Page, beside}
 use Rattle.lent.specs.Moves.{ReadyFor, Comes}
 use Rattle.sessions.proofs.Balance.{count_length, size_held, entered_balanced}
 use Rattle.sweeping.specs.Beside.{Moves}
 use Rattle.lent.proofs.Pages.{written_none}
 use Rattle.sweeping.proofs.Following.{held_counted, ready_later, lines_fit, same_capacity}
 use Rattle.book.specs.Entering.{StopCame, queue_checks}
-use Rattle.lent.proofs.Tables.{past_later}
+use Rattle.lent.proofs.Behind.{past_later}
 use Rattle.std.proofs.lemmas.Bool.{leb-false}
 use Rattle.trading.specs.declared.answer.Outcome.TheVariants.{Accepted}
 use Rattle.trading.specs.declared.request.Request.TheVariants.{Enter}
@@ -29,8 +29,9 @@ use Rattle.book.proofs.Coming.{Fresh, told, released_took}
 module _ (v : Venue) (o : Order) (d d' : Desk) (p p' : Page) where
   enters_by : (by : Bool) → is_continuous d.state.phase && not (is_vfu o.validity) ≡ by → Moves (λ b. cond by (sweeps v o b) (moved (join o b) [])) d p d' p' → Moves (enters_as v o) d p d' p'
   enters_by by e c = record {
-    came = λ n room from ready.
-        subst (λ k. Comes n (cond k (sweeps v o (book_of d)) (moved (join o (book_of d)) [])) d p d' p') (sym e) (c.came n room from ready);
+    came = λ stops n room from ready.
+        let b = book_of (beside d stops) in
+        subst (λ k. Comes n (cond k (sweeps v o b) (moved (join o b) [])) (beside d stops) p (beside d' stops) p') (sym e) (c.came stops n room from ready);
     stops = c.stops;
   }
 

@@ -7,7 +7,7 @@ use Rattle.trading.specs.declared.stop.StopOrder.{StopOrder}
 use Rattle.trading.specs.declared.state.State.{State}
 use Rattle.trading.specs.Calls.{taken_out, quantity_at}
 use Rattle.trading.specs.Desks.{Desk, desk_of, book_of, capacity}
-use Rattle.lent.proofs.Tables.{past_later}
+use Rattle.lent.proofs.Behind.{past_later}
 use Rattle.book.specs.declared.finding.Spot.TheVariants.{Buys, Sells, Stops}
 use Rattle.book.specs.Out.{Fit, OutOf}
 

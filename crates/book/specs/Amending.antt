@@ -46,6 +46,7 @@ pub record CutCame (n quantity : ℕ) (x : Standing) (d : Desk) (p : Page) (d' :
   pub came : Fit d → Stands n (book_of d) x → Comes (capacity d) (cut n quantity (book_of d) (place n (book_of d)) x.order) d p d' p'
   pub few : p'.written ≤ p.written + 1
   pub state : d'.state ≡ d.state
+  pub stops : d'.stops ≡ d.stops
 
 -- it has entered again, and there is room for the release of stops
 pub record AgainCame (v : Venue) (n limit quantity : ℕ) (o : Order) (d : Desk) (p : Page) (d' : Desk) (p' : Page) : Type 0 where

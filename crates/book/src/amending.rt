@@ -14,8 +14,8 @@ use crate::amendment::{Amendment, Standing, check_amendment};
 use crate::answering::answer;
 use crate::entering::enter_order;
 use crate::finding::Spot;
+use crate::ground::check_desk;
 use crate::leaving::take_out;
-use checks::check_ground;
 use collar::Collar;
 use grid::PriceGrid;
 use lent::{Desk, Report};
@@ -113,7 +113,7 @@ pub fn amend<G: PriceGrid, C: Collar>(
     ensures made { Made (G.lawful grid.now) (C.allows collar.now) (contents desk.old) (Amend number limit quantity) report.old result (contents desk.new) report.new }
     ensures kept { DeskKept desk.old desk.new }
 {
-    check_ground(desk, report)?;
+    check_desk(desk, report)?;
     let asked = Amendment {
         number,
         limit,

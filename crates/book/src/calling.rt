@@ -3,7 +3,7 @@ ghost use Rattle.lent.specs.Contents.{contents, DeskKept};
 ghost use Rattle.trading.specs.declared.request.Request.TheVariants.{Call};
 ghost use Rattle.book.specs.Anywhere.{MadeAnywhere};
 
-use checks::check_ground;
+use crate::ground::check_desk;
 use lent::Desk;
 use trading::{Answer, BookFault, Outcome, Phase, ReportLine};
 
@@ -12,7 +12,7 @@ pub fn call(desk: &mut Desk<'_>, report: &mut [ReportLine]) -> Result<Answer, Bo
     ensures made { MadeAnywhere (contents desk.old) Call report.old result (contents desk.new) report.new }
     ensures kept { DeskKept desk.old desk.new }
 {
-    check_ground(desk, report)?;
+    check_desk(desk, report)?;
     let Phase::Continuous = desk.state.phase else {
         return Err(BookFault::WrongPhase);
     };

@@ -4,8 +4,9 @@ ghost use Rattle.trading.specs.declared.request.Request.TheVariants.{Cancel};
 ghost use Rattle.book.specs.Anywhere.{MadeAnywhere};
 
 use crate::finding::find_record;
+use crate::ground::check_desk;
 use crate::leaving::take_out;
-use checks::{check_ground, is_number};
+use checks::is_number;
 use lent::Desk;
 use trading::{Answer, BookFault, Outcome, Phase, ReportLine};
 
@@ -18,7 +19,7 @@ pub fn cancel(
     ensures made { MadeAnywhere (contents desk.old) (Cancel number) report.old result (contents desk.new) report.new }
     ensures kept { DeskKept desk.old desk.new }
 {
-    check_ground(desk, report)?;
+    check_desk(desk, report)?;
     if let Phase::Ended = desk.state.phase {
         return Err(BookFault::WrongPhase);
     }

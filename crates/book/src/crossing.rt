@@ -4,8 +4,8 @@ ghost use Rattle.trading.specs.declared.request.Request.TheVariants.{Uncross};
 ghost use Rattle.sessions.specs.Made.{Made};
 
 use crate::answering::answer;
+use crate::ground::check_desk;
 use crate::opening::carry_out_opening;
-use checks::check_ground;
 use collar::Collar;
 use grid::PriceGrid;
 use lent::{Desk, Report};
@@ -23,7 +23,7 @@ pub fn uncross<G: PriceGrid, C: Collar>(
     ensures made { Made (G.lawful grid.now) (C.allows collar.now) (contents desk.old) (Uncross next) report.old result (contents desk.new) report.new }
     ensures kept { DeskKept desk.old desk.new }
 {
-    check_ground(desk, report)?;
+    check_desk(desk, report)?;
     let Phase::Call = desk.state.phase else {
         return Err(BookFault::WrongPhase);
     };

@@ -4,7 +4,7 @@ ghost use Rattle.trading.specs.declared.request.Request.TheVariants.{End};
 ghost use Rattle.book.specs.Anywhere.{MadeAnywhere};
 
 use crate::answering::answer;
-use checks::check_ground;
+use crate::ground::check_desk;
 use lent::{Desk, Report};
 use trading::{Answer, BookFault, Outcome, Phase, ReportLine};
 use uncrossing::close_unprinted;
@@ -14,7 +14,7 @@ pub fn end(desk: &mut Desk<'_>, report: &mut [ReportLine]) -> Result<Answer, Boo
     ensures made { MadeAnywhere (contents desk.old) End report.old result (contents desk.new) report.new }
     ensures kept { DeskKept desk.old desk.new }
 {
-    check_ground(desk, report)?;
+    check_desk(desk, report)?;
     if let Phase::Ended = desk.state.phase {
         return Err(BookFault::WrongPhase);
     }

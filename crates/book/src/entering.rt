@@ -13,7 +13,8 @@ ghost use Rattle.book.specs.Entering.{StopCame};
 
 use crate::answering::answer;
 use crate::entry::{check_queues, is_stop};
-use checks::{capacity_of, check_ground, check_ticket};
+use crate::ground::{capacity_on, check_desk};
+use checks::check_ticket;
 use collar::Collar;
 use grid::PriceGrid;
 use lent::{Desk, Report};
@@ -82,9 +83,9 @@ pub fn enter<G: PriceGrid, C: Collar>(
     ensures made { Made (G.lawful grid.now) (C.allows collar.now) (contents desk.old) (Enter ticket) report.old result (contents desk.new) report.new }
     ensures kept { DeskKept desk.old desk.new }
 {
-    check_ground(desk, report)?;
+    check_desk(desk, report)?;
     check_ticket(grid, desk.state.phase, ticket)?;
-    check_queues(collar, &desk.book(), capacity_of(desk), ticket)?;
+    check_queues(collar, &desk.book(), capacity_on(desk), ticket)?;
     let mut lines = Report::new(report);
     enter_ticket(collar, desk, &mut lines, ticket);
     release_stops(collar, desk, &mut lines);

@@ -12,6 +12,7 @@ mod ending;
 mod entering;
 mod entry;
 mod finding;
+mod ground;
 mod leaving;
 mod making;
 mod opening;

@@ -1,34 +1,39 @@
 // The checks that every call makes first: room in the report, and well-formed tables.
 ghost use Rattle.std.specs.Prelude.{◌≡◌, length};
-ghost use Rattle.trading.specs.Desks.{capacity, counts_fit, queues_fit, well_formed};
-ghost use Rattle.lent.specs.Contents.{contents, book_seen};
+ghost use Rattle.trading.specs.Desks.{counts_fit, queues_fit, well_formed};
+ghost use Rattle.lent.specs.Contents.{laid, capacity_in, book_seen};
 ghost use Rattle.checks.specs.Ground.{Ground};
 
 use crate::fits::is_queue;
 use grid::is_price;
-use lent::{Book, Desk};
+use lent::{Book, Tables};
 use rules::Side;
-use trading::{BookFault, ReportLine};
+use trading::{BookFault, ReportLine, State};
 
 // How many records a book may hold, however long its tables are.
-pub const MAX_RECORDS: usize = 4_096;
+const MAX_RECORDS: usize = 4_096;
 
 // How many records a book may hold in these tables.
-pub fn capacity_of(desk: &Desk<'_>) -> usize
-    ensures { result ≡ capacity (contents desk.now) }
+pub fn capacity_of(tables: &Tables<'_>) -> usize
+    ensures { result ≡ capacity_in tables.now }
 {
-    MAX_RECORDS.min(desk.buys.len().min(desk.sells.len().min(desk.stops.len())))
+    MAX_RECORDS.min(
+        tables
+            .buys
+            .len()
+            .min(tables.sells.len().min(tables.stops.len())),
+    )
 }
 
 // Each count is held to the capacity before they are added up.
-fn counts_fit(desk: &Desk<'_>) -> bool
-    ensures { result ≡ counts_fit (contents desk.now) }
+fn counts_fit(state: State, tables: &Tables<'_>) -> bool
+    ensures { result ≡ counts_fit (laid state tables.now) }
 {
-    let n = capacity_of(desk);
-    desk.state.buys <= n
-        && desk.state.sells <= n
-        && desk.state.stops <= n
-        && desk.state.buys + desk.state.sells + desk.state.stops <= n
+    let n = capacity_of(tables);
+    state.buys <= n
+        && state.sells <= n
+        && state.stops <= n
+        && state.buys + state.sells + state.stops <= n
 }
 
 fn queues_fit(book: &Book<'_>) -> bool
@@ -41,20 +46,24 @@ fn queues_fit(book: &Book<'_>) -> bool
         && is_price(book.last)
 }
 
-fn well_formed(desk: &Desk<'_>) -> bool
-    ensures { result ≡ well_formed (contents desk.now) }
+fn well_formed(state: State, tables: &Tables<'_>) -> bool
+    ensures { result ≡ well_formed (laid state tables.now) }
 {
-    counts_fit(desk) && queues_fit(&desk.book())
+    counts_fit(state, tables) && queues_fit(&tables.book(state))
 }
 
 // Refuses a report that is too short, then tables that are not well-formed.
-pub fn check_ground(desk: &Desk<'_>, report: &[ReportLine]) -> Result<(), BookFault>
-    ensures { Ground (contents desk.now) (length report.now) result }
+pub fn check_ground(
+    state: State,
+    tables: &Tables<'_>,
+    report: &[ReportLine],
+) -> Result<(), BookFault>
+    ensures { Ground (laid state tables.now) (length report.now) result }
 {
-    if report.len() < capacity_of(desk) + 1 {
+    if report.len() < capacity_of(tables) + 1 {
         return Err(BookFault::ReportTooShort);
     }
-    if !well_formed(desk) {
+    if !well_formed(state, tables) {
         return Err(BookFault::NotWellFormed);
     }
     Ok(())

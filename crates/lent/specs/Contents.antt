@@ -1,16 +1,31 @@
 -- What lies in the tables and on the report that a call is lent.
-use Rattle.std.specs.Prelude.{◌≡◌, ℕ, ◌+◌, List, length}
+use Rattle.std.specs.Prelude.{◌≡◌, ℕ, ◌+◌, min, List, length}
 use Rattle.trading.specs.declared.report.ReportLine.{ReportLine}
 use Rattle.trading.specs.Moves.{written_at}
 use Rattle.trading.specs.Desks as desks
 use Rattle.trading.specs.Books as books
 use Rattle.lent.specs.declared.desk.Desk.{Desk}
 use Rattle.lent.specs.declared.desk.Book.{Book}
+use Rattle.lent.specs.declared.desk.Tables.{Tables}
+use Rattle.trading.specs.declared.state.State.{State}
+use Rattle.trading.specs.declared.stop.StopOrder.{StopOrder}
 use Rattle.lent.specs.declared.report.Report.{Report}
 
 -- the state and the records of the tables
 abbrev pub contents : Desk → desks.Desk
 contents d = desks.desk_of d.state.now d.buys.now d.sells.now d.stops.now
+
+-- a state with tables that are only read
+abbrev pub laid : State → Tables → desks.Desk
+laid s t = desks.desk_of s t.buys.now t.sells.now t.stops.now
+
+-- a desk with another table of stops
+abbrev pub beside : desks.Desk → List StopOrder → desks.Desk
+beside d stops = desks.desk_of d.state d.buys d.sells stops
+
+-- how many records a book may hold in these tables, whatever its state
+abbrev pub capacity_in : Tables → ℕ
+capacity_in t = min 4096 (min (length t.buys.now) (min (length t.sells.now) (length t.stops.now)))
 
 -- the phase, the prices and the queues
 abbrev pub book_seen : Book → books.Book

@@ -5,5 +5,5 @@
 mod desk;
 mod report;
 
-pub use desk::{Book, Desk};
+pub use desk::{Book, Desk, Tables};
 pub use report::Report;

@@ -9,6 +9,10 @@ use Rattle.trading.specs.Desks.{Desk, book_of, capacity}
 use Rattle.trading.specs.Carried.{CountsFit}
 use Rattle.trading.specs.Moves.{written_at, counted, Ready, Beyond, Came}
 use Rattle.lent.proofs.Pages.{written_none, written_after}
+use Rattle.lent.specs.Contents.{Page}
+use Rattle.lent.proofs.Behind.{own_stops}
+use Rattle.lent.specs.Moves.{Comes}
+use Rattle.sweeping.specs.Beside.{Moves}
 use Rattle.sessions.proofs.Balance.{count_length, size_held, sweeps_balanced}
 
 -- ---- desks
@@ -86,3 +90,8 @@ pub came_released : (v : Venue) (n : ℕ) (m : Moved) (d d' d'' : Desk) (report 
     → Came n m d report at d' report' at' → Came n (release_all v (book_of d')) d' report' at' d'' report'' at'' → Came n (then_released v m) d report at d'' report'' at''
 came_released v n m d d' d'' report report' report'' at at' at'' room x y =
     came_after n m (release_all v m.book) d d' d'' report report' report'' at at' at'' room x (subst (λ b. Came n (release_all v b) d' report' at' d'' report'' at'') x.book y)
+
+-- ---- a move on the desk's own stops
+
+pub came_own : {move : Book → Moved} {d d' : Desk} {p p' : Page} → Moves move d p d' p' → (n room from : ℕ) → Ready n d room from 1 → Comes n (move (book_of d)) d p d' p'
+came_own {move} {d} {d'} {p} {p'} h n room from ready = own_stops h.stops (h.came d.stops n room from ready)

@@ -8,9 +8,9 @@ use Rattle.trading.specs.Queues.{joined, order_ahead}
 use Rattle.trading.specs.Books.{Book, with_orders, own_queue, with_own_queue}
 use Rattle.trading.specs.Sweeps.{moved, join}
 use Rattle.trading.specs.Desks.{Desk, desk_of, book_of}
-use Rattle.lent.specs.Contents.{Page}
+use Rattle.lent.specs.Contents.{Page, beside}
 use Rattle.sweeping.specs.Beside.{Moves}
-use Rattle.lent.proofs.Tables.{past_later}
+use Rattle.lent.proofs.Behind.{past_later}
 use Rattle.lent.proofs.Pages.{written_none}
 
 join_as : (o : Order) (b : Book) (side : Side) → o.side ≡ side → join o b ≡ with_own_queue side (joined order_ahead o (own_queue side b)) b
@@ -27,8 +27,8 @@ module _ (o : Order) (d : Desk) (p : Page) where
       → take (d.state.buys + 1) buys' ≡ joined order_ahead o (take d.state.buys d.buys) → drop (d.state.buys + 1) buys' ≡ drop (d.state.buys + 1) d.buys
       → Moves (λ b. moved (join o b) []) d p (desk_of (with_buys (d.state.buys + 1) d.state) buys' d.sells d.stops) p
   joined_buys buys' side long queue beyond = record {
-    came = λ n room from ready.
-        let b = book_of d in
+    came = λ stops n room from ready.
+        let b = book_of (beside d stops) in
         record {
           book = ap (λ q. with_orders q b.sells b) queue ∙ sym (join_as o b Buy side);
           counts = record { buys = omega (arith, ready.buys, ready.records); sells = omega (arith, ready.sells, ready.records); stops = omega (arith, ready.stops, ready.records) };
@@ -43,8 +43,8 @@ module _ (o : Order) (d : Desk) (p : Page) where
       → take (d.state.sells + 1) sells' ≡ joined order_ahead o (take d.state.sells d.sells) → drop (d.state.sells + 1) sells' ≡ drop (d.state.sells + 1) d.sells
       → Moves (λ b. moved (join o b) []) d p (desk_of (with_sells (d.state.sells + 1) d.state) d.buys sells' d.stops) p
   joined_sells sells' side long queue beyond = record {
-    came = λ n room from ready.
-        let b = book_of d in
+    came = λ stops n room from ready.
+        let b = book_of (beside d stops) in
         record {
           book = ap (λ q. with_orders b.buys q b) queue ∙ sym (join_as o b Sell side);
           counts = record { buys = omega (arith, ready.buys, ready.records); sells = omega (arith, ready.sells, ready.records); stops = omega (arith, ready.stops, ready.records) };

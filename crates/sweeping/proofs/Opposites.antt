@@ -11,13 +11,13 @@ use Rattle.trading.specs.Desks.{Desk, desk_of, book_of}
 use Rattle.trading.specs.Moves.{Ready}
 use Rattle.queue.specs.declared.queue.Queue.{Queue}
 use Rattle.queue.specs.Lent.{listed}
-use Rattle.lent.specs.Contents.{Page}
+use Rattle.lent.specs.Contents.{Page, beside}
 use Rattle.lent.specs.Moves.{Comes}
 use Rattle.sweeping.specs.declared.tables.AfterSweep.{AfterSweep}
 use Rattle.sweeping.specs.declared.orders.Unsettled.{Unsettled}
 use Rattle.sweeping.specs.Steps.{QueueSwept}
 use Rattle.sweeping.specs.Beside.{venue, Roomy, Moves, SweptBy, swept_in, unsettled}
-use Rattle.lent.proofs.Tables.{past_later}
+use Rattle.lent.proofs.Behind.{past_later}
 use Rattle.sweeping.proofs.Following.{came_after}
 
 -- the state once the sells, or the buys, have been swept
@@ -47,11 +47,10 @@ module _ (allows : ℕ → ℕ → ℕ → Bool) (t : Order) where
         let w = swept_as Buy b in
         let same : sweep (allows d.state.static_price) t t.«open» d.state.last (listed a) ≡ w = ap (λ os. sweep (allows d.state.static_price) t t.«open» d.state.last os) (ap (take a.count) table ∙ ap (λ n. take n d.sells) count) in
         let y = subst (λ s. QueueSwept s a p q p' r) same x in
-        let is = ap (λ side. unsettled_as side b (swept_as side b)) side in
         record {
           moves = record {
-            came = λ n room from ready. subst (λ m. Comes n m d p (desk_of (sells_swept d.state q.count r.last) d.buys sells' d.stops) p') (sym is) (record {
-              book = ap (λ os. with_last r.last (with_opposite Buy os b)) (ap (take q.count) back ∙ y.queue) ∙ ap (λ l. with_last l (with_opposite Buy w.queue b)) y.last;
+            came = λ stops n room from ready. subst (λ m. Comes n m (beside d stops) p (desk_of (sells_swept d.state q.count r.last) d.buys sells' stops) p') (sym (ap (λ side. unsettled_as side (book_of (beside d stops)) (swept_as side (book_of (beside d stops)))) side)) (record {
+              book = ap (λ os. with_last r.last (with_opposite Buy os (book_of (beside d stops)))) (ap (take q.count) back ∙ y.queue) ∙ ap (λ l. with_last l (with_opposite Buy w.queue (book_of (beside d stops)))) y.last;
               counts = record { buys = omega (arith, ready.buys, ready.records); sells = subst (λ os. q.count ≤ length os) (sym back) q.within; stops = omega (arith, ready.stops, ready.records) };
               lines = y.lines;
               place = y.place;
@@ -59,8 +58,8 @@ module _ (allows : ℕ → ℕ → ℕ → Bool) (t : Order) where
             });
             stops = refl;
           };
-          rest = y.rest ∙ sym (ap (λ side. (swept_as side b).rest) side);
-          ending = y.ending ∙ sym (ap (λ side. (swept_as side b).ending) side);
+          rest = λ stops. y.rest ∙ sym (ap (λ side. (swept_as side (book_of (beside d stops))).rest) side);
+          ending = λ stops. y.ending ∙ sym (ap (λ side. (swept_as side (book_of (beside d stops))).ending) side);
           few = omega (arith, y.few, count);
           buys_fall = omega arith;
           sells_fall = omega (arith, y.count, count);
@@ -75,11 +74,10 @@ module _ (allows : ℕ → ℕ → ℕ → Bool) (t : Order) where
         let w = swept_as Sell b in
         let same : sweep (allows d.state.static_price) t t.«open» d.state.last (listed a) ≡ w = ap (λ os. sweep (allows d.state.static_price) t t.«open» d.state.last os) (ap (take a.count) table ∙ ap (λ n. take n d.buys) count) in
         let y = subst (λ s. QueueSwept s a p q p' r) same x in
-        let is = ap (λ side. unsettled_as side b (swept_as side b)) side in
         record {
           moves = record {
-            came = λ n room from ready. subst (λ m. Comes n m d p (desk_of (buys_swept d.state q.count r.last) buys' d.sells d.stops) p') (sym is) (record {
-              book = ap (λ os. with_last r.last (with_opposite Sell os b)) (ap (take q.count) back ∙ y.queue) ∙ ap (λ l. with_last l (with_opposite Sell w.queue b)) y.last;
+            came = λ stops n room from ready. subst (λ m. Comes n m (beside d stops) p (desk_of (buys_swept d.state q.count r.last) buys' d.sells stops) p') (sym (ap (λ side. unsettled_as side (book_of (beside d stops)) (swept_as side (book_of (beside d stops)))) side)) (record {
+              book = ap (λ os. with_last r.last (with_opposite Sell os (book_of (beside d stops)))) (ap (take q.count) back ∙ y.queue) ∙ ap (λ l. with_last l (with_opposite Sell w.queue (book_of (beside d stops)))) y.last;
               counts = record { sells = omega (arith, ready.sells, ready.records); buys = subst (λ os. q.count ≤ length os) (sym back) q.within; stops = omega (arith, ready.stops, ready.records) };
               lines = y.lines;
               place = y.place;
@@ -87,8 +85,8 @@ module _ (allows : ℕ → ℕ → ℕ → Bool) (t : Order) where
             });
             stops = refl;
           };
-          rest = y.rest ∙ sym (ap (λ side. (swept_as side b).rest) side);
-          ending = y.ending ∙ sym (ap (λ side. (swept_as side b).ending) side);
+          rest = λ stops. y.rest ∙ sym (ap (λ side. (swept_as side (book_of (beside d stops))).rest) side);
+          ending = λ stops. y.ending ∙ sym (ap (λ side. (swept_as side (book_of (beside d stops))).ending) side);
           few = omega (arith, y.few, count);
           sells_fall = omega arith;
           buys_fall = omega (arith, y.count, count);
@@ -110,18 +108,21 @@ pub swept_settled : (g : Grid) (allows : ℕ → ℕ → ℕ → Bool) (t : Orde
     → Moves (sweeps (venue g allows) t) d p d'' p''
 unfolding sweeps
 swept_settled g allows t d d' d'' p p' p'' r roomy long-buys long-sells x y = record {
-  came = λ n room from ready.
-      let w = swept_in allows t (book_of d) in
-      let m = unsettled t (book_of d) w in
-      let first : Comes n m d p d' p' = x.moves.came n room from ready in
-      let again : Ready n d' n 0 1 = record {
+  came = λ stops n room from ready.
+      let e = beside d stops in
+      let e' = beside d' stops in
+      let e'' = beside d'' stops in
+      let w = swept_in allows t (book_of e) in
+      let m = unsettled t (book_of e) w in
+      let first : Comes n m e p e' p' = x.moves.came stops n room from ready in
+      let again : Ready n e' n 0 1 = record {
         buys = omega (arith, ready.buys);
         sells = omega (arith, ready.sells);
-        stops = omega (arith, ready.stops, ap length x.moves.stops);
+        stops = ready.stops;
         records = omega (arith, ready.records, x.buys_fall, x.sells_fall, x.stops_stay);
         lines = omega (arith, ready.records, x.buys_fall, x.sells_fall, x.stops_stay);
       } in
-      let second = subst (λ m'. Comes n m' d' p' d'' p'') (settled_same t (book_of d') m.book r w first.book x.rest x.ending) (y.came n n 0 again) in
-      came_after n m _ d d' d'' p.lines p'.lines p''.lines p.written p'.written p''.written (omega (arith, first.place, x.few, roomy.lines)) first second;
+      let second = subst (λ m'. Comes n m' e' p' e'' p'') (settled_same t (book_of e') m.book r w first.book (x.rest stops) (x.ending stops)) (y.came stops n n 0 again) in
+      came_after n m _ e e' e'' p.lines p'.lines p''.lines p.written p'.written p''.written (omega (arith, first.place, x.few, roomy.lines)) first second;
   stops = y.stops ∙ x.moves.stops;
 }

@@ -19,8 +19,8 @@ use Rattle.sessions.proofs.Finding.{left_shorter}
 use Rattle.queue.specs.Places.{FirstAt}
 use Rattle.sweeping.specs.Beside.{venue, Moves}
 use Rattle.sweeping.specs.Releases.{blank_stop, ReleasedAt}
-use Rattle.lent.proofs.Tables.{past_later}
-use Rattle.sweeping.proofs.Following.{beyond_after, came_none, came_released, ready_fits, ready_later, lines_fit, sweeps_fit}
+use Rattle.lent.proofs.Behind.{past_later}
+use Rattle.sweeping.proofs.Following.{came_own, beyond_after, came_none, came_released, ready_fits, ready_later, lines_fit, sweeps_fit}
 
 -- ---- a stop leaves, and sweeps
 
@@ -44,7 +44,7 @@ left_swept allows i d d' stops' p p' o held long is queue beyond swept = record 
       } in
       let gone : Beyond n d d₁ = record { buys_length = refl; sells_length = refl; stops_length = long; buys = refl; sells = refl; stops = past_later stops' d.stops d.state.stops n (omega (arith, ready.records)) beyond } in
       let order : o ≡ as_day_order (get_or (book_of d).stops i blank_stop) = is ∙ ap as_day_order (sym (get_or-take d.state.stops d.stops i blank_stop held)) in
-      let c = subst (λ o. Comes n (sweeps (venue g allows) o (book_of d₁)) d₁ p d' p') order ((swept g).came n room from ready₁) in
+      let c = subst (λ o. Comes n (sweeps (venue g allows) o (book_of d₁)) d₁ p d' p') order (came_own (swept g) n room from ready₁) in
       let same : book_of d₁ ≡ with_stops (remove (book_of d).stops i) (book_of d) = ap (λ ss. with_stops ss (book_of d)) queue in
       subst (λ b. Comes n (sweeps (venue g allows) (as_day_order (get_or (book_of d).stops i blank_stop)) b) d p d' p') same (record {
         book = c.book;

@@ -10,7 +10,7 @@ use Rattle.trading.specs.declared.report.ReportLine.TheVariants.{Lapse}
 use Rattle.trading.specs.Books.{Book, is_day, with_phase, with_open}
 use Rattle.trading.specs.Sweeps.{Moved, moved, join, settled}
 use Rattle.trading.specs.Desks.{Desk, desk_of, book_of}
-use Rattle.lent.specs.Contents.{Page}
+use Rattle.lent.specs.Contents.{Page, beside}
 use Rattle.lent.specs.Moves.{Comes}
 use Rattle.sweeping.specs.declared.orders.Unsettled.{Unsettled}
 use Rattle.sweeping.specs.Beside.{Moves}
@@ -31,8 +31,8 @@ module _ (t : Order) (r : Unsettled) (d : Desk) (p : Page) where
 
   pub settled_filled : r.ending ≡ Filled → Moves move d p d p
   settled_filled e = record {
-    came = λ n room from ready.
-        subst (λ m. Comes n m d p d p) (sym (ap (settled (is_day t.validity) t (book_of d) r.rest) e)) (came_none n d p.lines p.written (ready_fits n d room from 1 ready));
+    came = λ stops n room from ready.
+        subst (λ m. Comes n m (beside d stops) p (beside d stops) p) (sym (ap (settled (is_day t.validity) t (book_of (beside d stops)) r.rest) e)) (came_none n (beside d stops) p.lines p.written (ready_fits n (beside d stops) room from 1 ready));
     stops = refl;
   }
 
@@ -40,12 +40,12 @@ module _ (t : Order) (r : Unsettled) (d : Desk) (p : Page) where
       → p'.lines ≡ set p.lines p.written (Lapse t.number r.rest) → p'.written ≡ p.written + 1
       → Moves move d p d p'
   settled_lapsed p' day unfilled lt line-is next = record {
-    came = λ n room from ready.
+    came = λ stops n room from ready.
         let line = Lapse t.number r.rest in
-        let is : move (book_of d) ≡ moved (book_of d) (line ∷ []) = ap (λ day. settled day t (book_of d) r.rest r.ending) day ∙ lapses t (book_of d) r.rest r.ending unfilled in
-        subst (λ m. Comes n m d p d p') (sym is) (record {
+        let is : move (book_of (beside d stops)) ≡ moved (book_of (beside d stops)) (line ∷ []) = ap (λ day. settled day t (book_of (beside d stops)) r.rest r.ending) day ∙ lapses t (book_of (beside d stops)) r.rest r.ending unfilled in
+        subst (λ m. Comes n m (beside d stops) p (beside d stops) p') (sym is) (record {
           book = refl;
-          counts = ready_fits n d room from 1 ready;
+          counts = ready_fits n (beside d stops) room from 1 ready;
           lines = line-is ∙ written_one p.lines p.written line lt;
           place = next;
           beyond = record { buys_length = refl; sells_length = refl; stops_length = refl; buys = refl; sells = refl; stops = refl };
@@ -56,18 +56,18 @@ module _ (t : Order) (r : Unsettled) (d : Desk) (p : Page) where
   module _ (d' : Desk) (day : is_day t.validity ≡ true) (h : Moves (λ b. moved (join (with_open t r.rest) b) []) d p d' p) where
     pub settled_joined : r.ending ≡ Nobody → Moves move d p d' p
     settled_joined e = record {
-      came = λ n room from ready.
-          let is : move (book_of d) ≡ settled true t (book_of d) r.rest Nobody = ap (λ day. settled day t (book_of d) r.rest r.ending) day ∙ ap (settled true t (book_of d) r.rest) e in
-          subst (λ m. Comes n m d p d' p) (sym is) (h.came n room from ready);
+      came = λ stops n room from ready.
+          let is : move (book_of (beside d stops)) ≡ settled true t (book_of (beside d stops)) r.rest Nobody = ap (λ day. settled day t (book_of (beside d stops)) r.rest r.ending) day ∙ ap (settled true t (book_of (beside d stops)) r.rest) e in
+          subst (λ m. Comes n m (beside d stops) p (beside d' stops) p) (sym is) (h.came stops n room from ready);
       stops = h.stops;
     }
 
     pub settled_called : r.ending ≡ Collared → Moves move d p (desk_of (in_phase Call d'.state) d'.buys d'.sells d'.stops) p
     settled_called e = record {
-      came = λ n room from ready.
-          let c = h.came n room from ready in
-          let is : move (book_of d) ≡ settled true t (book_of d) r.rest Collared = ap (λ day. settled day t (book_of d) r.rest r.ending) day ∙ ap (settled true t (book_of d) r.rest) e in
-          subst (λ m. Comes n m d p (desk_of (in_phase Call d'.state) d'.buys d'.sells d'.stops) p) (sym is) (record {
+      came = λ stops n room from ready.
+          let c = h.came stops n room from ready in
+          let is : move (book_of (beside d stops)) ≡ settled true t (book_of (beside d stops)) r.rest Collared = ap (λ day. settled day t (book_of (beside d stops)) r.rest r.ending) day ∙ ap (settled true t (book_of (beside d stops)) r.rest) e in
+          subst (λ m. Comes n m (beside d stops) p (desk_of (in_phase Call d'.state) d'.buys d'.sells stops) p) (sym is) (record {
             book = ap (with_phase Call) c.book;
             counts = record { buys = c.counts.buys; sells = c.counts.sells; stops = c.counts.stops };
             lines = c.lines;

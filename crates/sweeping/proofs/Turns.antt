@@ -8,7 +8,7 @@ use Rattle.sessions.proofs.Sweeping.{sweep_by}
 use Rattle.queue.specs.declared.queue.Queue.{Queue}
 use Rattle.queue.specs.Lent.{listed, Kept}
 use Rattle.lent.specs.Contents.{Page}
-use Rattle.lent.proofs.Tables.{past_later}
+use Rattle.lent.proofs.Behind.{past_later}
 use Rattle.lent.proofs.Pages.{page_after, place_after_is, sets_written}
 use Rattle.sweeping.specs.declared.trade.AfterTrade.{AfterTrade}
 use Rattle.sweeping.specs.declared.tables.AfterSweep.{AfterSweep}

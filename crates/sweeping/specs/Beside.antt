@@ -1,12 +1,13 @@
--- What orders do to a book in memory; the table of stops stays.
-use Rattle.std.specs.Prelude.{◌≡◌, ℕ, ◌+◌, ◌<◌, ◌≤◌, Bool, length}
+-- What orders do to a book in memory, whatever stops stand in it.
+use Rattle.std.specs.Prelude.{◌≡◌, ℕ, ◌+◌, ◌<◌, ◌≤◌, Bool, List, length}
 use Rattle.rules.specs.declared.order.Order.{Order}
 use Rattle.rules.specs.Candidates.{Grid}
+use Rattle.trading.specs.declared.stop.StopOrder.{StopOrder}
 use Rattle.trading.specs.Books.{Venue, Book, with_last, opposite, with_opposite}
 use Rattle.trading.specs.Sweeps.{Swept, sweep, Moved, moved}
 use Rattle.trading.specs.Desks.{Desk, book_of}
 use Rattle.trading.specs.Moves.{Ready}
-use Rattle.lent.specs.Contents.{Page}
+use Rattle.lent.specs.Contents.{Page, beside}
 use Rattle.lent.specs.Moves.{Comes}
 use Rattle.sweeping.specs.declared.orders.Unsettled.{Unsettled}
 
@@ -20,9 +21,9 @@ pub record Roomy (d : Desk) (p : Page) : Type 0 where
   pub for_sell : d.state.sells < length d.sells
   pub lines : p.written + (d.state.buys + d.state.sells) + 1 ≤ length p.lines
 
--- a move has come about in a book that was ready for one record more
+-- a move has come about in a book that was ready for one record more, whatever stops stand in it; the table of stops stays
 pub record Moves (move : Book → Moved) (d : Desk) (p : Page) (d' : Desk) (p' : Page) : Type 0 where
-  pub came : (n room from : ℕ) → Ready n d room from 1 → Comes n (move (book_of d)) d p d' p'
+  pub came : (stops : List StopOrder) (n room from : ℕ) → Ready n (beside d stops) room from 1 → Comes n (move (book_of (beside d stops))) (beside d stops) p (beside d' stops) p'
   pub stops : d'.stops ≡ d.stops
 
 -- t sweeps the opposite queue of a book
@@ -36,8 +37,8 @@ unsettled t b s = moved (with_last s.last (with_opposite t.side s.queue b)) s.tr
 -- the sweep of t has come about, and r tells what is left of it
 pub record SweptBy (allows : ℕ → ℕ → ℕ → Bool) (t : Order) (d : Desk) (p : Page) (d' : Desk) (p' : Page) (r : Unsettled) : Type 0 where
   pub moves : Moves (λ b. unsettled t b (swept_in allows t b)) d p d' p'
-  pub rest : r.rest ≡ (swept_in allows t (book_of d)).rest
-  pub ending : r.ending ≡ (swept_in allows t (book_of d)).ending
+  pub rest : (stops : List StopOrder) → r.rest ≡ (swept_in allows t (book_of (beside d stops))).rest
+  pub ending : (stops : List StopOrder) → r.ending ≡ (swept_in allows t (book_of (beside d stops))).ending
   pub few : p'.written ≤ p.written + (d.state.buys + d.state.sells)
   pub buys_fall : d'.state.buys ≤ d.state.buys
   pub sells_fall : d'.state.sells ≤ d.state.sells

@@ -4,19 +4,20 @@ use native.Mathlib.Nat.{sub-zero}
 use Rattle.rules.specs.declared.order.Order.{Order}
 use Rattle.trading.specs.declared.state.Phase.TheVariants.{Continuous}
 use Rattle.trading.specs.declared.report.ReportLine.{ReportLine}
+use Rattle.trading.specs.declared.stop.StopOrder.{StopOrder}
 use Rattle.trading.specs.Books.{Book}
 use Rattle.trading.specs.Desks.{Desk, desk_of, book_of}
 use Rattle.trading.specs.Moves.{Ready}
 use Rattle.trading.specs.Sweeps.{moved}
 use Rattle.trading.specs.Uncrossings.{vfu_lapses, without_vfu, printed_at}
-use Rattle.lent.specs.Contents.{Page, Wrote}
+use Rattle.lent.specs.Contents.{Page, Wrote, beside}
 use Rattle.lent.specs.Moves.{Comes}
 use Rattle.uncrossing.specs.declared.pairing.Met.{Met}
 use Rattle.uncrossing.specs.Sifted.{SiftedTo}
 use Rattle.uncrossing.specs.Fits.{RestFits}
 use Rattle.uncrossing.specs.Meetings.{paired_at}
 use Rattle.uncrossing.specs.Prints.{book_from, PrintedAs}
-use Rattle.lent.proofs.Tables.{past_later}
+use Rattle.lent.proofs.Behind.{past_later}
 use Rattle.lent.proofs.Pages.{wrote_both}
 
 -- the VFU orders of what is left of both queues have lapsed
@@ -43,6 +44,16 @@ opens met d buys' sells' p p1 p' k m n fit bl sl a b hb hs ht =
         stops = refl;
       };
     }
+
+-- the same facts, whatever stops stand in the book
+pub rest_beside : {met : Met} {d : Desk} {p : Page} → RestFits met d p → (stops : List StopOrder) → RestFits met (beside d stops) p
+rest_beside h stops = record { queues = record { buys_start = h.queues.buys_start; sells_start = h.queues.sells_start; buys = h.queues.buys; sells = h.queues.sells }; lines = h.lines }
+
+pub printed_beside : {p : ℕ} {d d1 : Desk} {page page1 : Page} {met : Met} → PrintedAs p d page d1 page1 met → (stops : List StopOrder) → PrintedAs p (beside d stops) page (beside d1 stops) page1 met
+printed_beside h stops = record {
+  state = h.state;
+  paired = record { buys_left = h.paired.buys_left; sells_left = h.paired.sells_left; trades = h.paired.trades; buys_start = h.paired.buys_start; sells_start = h.paired.sells_start; few = h.paired.few; buys_beyond = h.paired.buys_beyond; sells_beyond = h.paired.sells_beyond; stops = refl };
+}
 
 -- what is done before any trade is done with the whole queues
 pub unmet_on : {n : ℕ} {d d' : Desk} {p p' : Page} {met : Met} (f : Book → Book) (g : Book → List ReportLine)

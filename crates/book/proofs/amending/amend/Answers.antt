@@ -14,10 +14,10 @@ use Rattle.book.proofs.Cuts.{stands_inside, ready_after_cut}
 use Rattle.book.proofs.Amended.{no_more, kept_took, lost_took}
 use Rattle.book.proofs.amending.amend.Goals as goal
 
-pub returns-in_err-check_ground-clause-made : goal.returns-in_err-check_ground-clause-made
-returns-in_err-check_ground-clause-made g c =
+pub returns-in_err-check_desk-clause-made : goal.returns-in_err-check_desk-clause-made
+returns-in_err-check_desk-clause-made g c =
     let p = err_from_is_err_and c.from_residual.result c.from_residual.ensures.1 in
-    rw (p.1, p.2) (made_refusing_all (g.G.PriceGrid.lawful c.args.grid.now) (g.C.Collar.allows c.args.collar.now) (g.met.G.PriceGrid.priced c.args.grid.now) (contents c.args.desk.now) (Amend c.args.number c.args.limit c.args.quantity) c.args.report.now _ c.in_err-check_ground.ensures)
+    rw (p.1, p.2) (made_refusing_all (g.G.PriceGrid.lawful c.args.grid.now) (g.C.Collar.allows c.args.collar.now) (g.met.G.PriceGrid.priced c.args.grid.now) (contents c.args.desk.now) (Amend c.args.number c.args.limit c.args.quantity) c.args.report.now _ c.in_err-check_desk.ensures)
 
 pub returns-in_err-standing-clause-made : goal.returns-in_err-standing-clause-made
 returns-in_err-standing-clause-made g c =
@@ -25,7 +25,7 @@ returns-in_err-standing-clause-made g c =
     let lawful = g.G.PriceGrid.lawful c.args.grid.now in
     let allows = g.C.Collar.allows c.args.collar.now in
     let v = venue_of lawful allows in
-    rw (p.1, p.2) (made_turned lawful allows (g.met.G.PriceGrid.priced c.args.grid.now) (contents c.args.desk.now) (Amend c.args.number c.args.limit c.args.quantity) c.args.report.now c.in_ok-check_ground.ensures _ (subst (λ b. MayAmend v c.args.number c.args.limit c.args.quantity b (Err c.in_err-standing.field-0.0)) c.book.ensures (c.in_err-standing.ensures allows)))
+    rw (p.1, p.2) (made_turned lawful allows (g.met.G.PriceGrid.priced c.args.grid.now) (contents c.args.desk.now) (Amend c.args.number c.args.limit c.args.quantity) c.args.report.now c.in_ok-check_desk.ensures _ (subst (λ b. MayAmend v c.args.number c.args.limit c.args.quantity b (Err c.in_err-standing.field-0.0)) c.book.ensures (c.in_err-standing.ensures allows)))
 
 pub cut_order-requires : goal.cut_order-requires
 cut_order-requires g c =
@@ -37,7 +37,7 @@ cut_order-requires g c =
     record {
       inside = stands_inside c.args.number (contents c.args.desk.now) x may.1;
       cut = no_more x.order c.args.limit c.args.quantity (sym c.if-keeps_priority.ensures);
-      line = omega (arith, c.in_ok-check_ground.ensures.wide, n.written, ap length n.lines);
+      line = omega (arith, c.in_ok-check_desk.ensures.wide, n.written, ap length n.lines);
     }
 
 pub release_stops-requires : goal.release_stops-requires
@@ -46,7 +46,7 @@ release_stops-requires g c =
     let k = x.ensures.kept in
     let p = page c.new-lines.result in
     let fresh : Fresh c.args.report.now p = record { lines = c.new-lines.ensures.lines; written = c.new-lines.ensures.written } in
-    ready_after_cut (contents c.args.desk.now) (contents x.new.desk) c.args.report.now p (page x.new.report) c.in_ok-check_ground.ensures fresh x.ensures.cut.state k.desk.buys_length k.desk.sells_length k.desk.stops_length k.report.lines_length x.ensures.cut.few
+    ready_after_cut (contents c.args.desk.now) (contents x.new.desk) c.args.report.now p (page x.new.report) c.in_ok-check_desk.ensures fresh x.ensures.cut.state k.desk.buys_length k.desk.sells_length k.desk.stops_length k.report.lines_length x.ensures.cut.few
 
 pub returns-then-keeps_priority-clause-made : goal.returns-then-keeps_priority-clause-made
 returns-then-keeps_priority-clause-made g c =
@@ -57,7 +57,7 @@ returns-then-keeps_priority-clause-made g c =
     let p = page c.new-lines.result in
     let x = c.cut_order in
     let y = c.release_stops in
-    let s = c.in_ok-check_ground.ensures in
+    let s = c.in_ok-check_desk.ensures in
     let may = subst (λ b. MayAmend v c.args.number c.args.limit c.args.quantity b (Ok c.in_ok-standing.standing)) c.book.ensures (c.in_ok-standing.ensures allows) in
     let fresh : Fresh c.args.report.now p = record { lines = c.new-lines.ensures.lines; written = c.new-lines.ensures.written } in
     made_told lawful allows (g.met.G.PriceGrid.priced c.args.grid.now) d (Amend c.args.number c.args.limit c.args.quantity) c.args.report.now s PriorityKept (contents y.new.desk) (page y.new.report) _ _ c.answer.ensures (search rules) may.0
@@ -68,7 +68,7 @@ pub enter_again-requires : goal.enter_again-requires
 enter_again-requires g c =
     let allows = g.C.Collar.allows c.args.collar.now in
     let v = venue_of (g.G.PriceGrid.lawful c.args.grid.now) allows in
-    let s = c.in_ok-check_ground.ensures in
+    let s = c.in_ok-check_desk.ensures in
     let n = c.new-lines.ensures in
     let may = subst (λ b. MayAmend v c.args.number c.args.limit c.args.quantity b (Ok c.in_ok-standing.standing)) c.book.ensures (c.in_ok-standing.ensures allows) in
     record {
@@ -92,7 +92,7 @@ returns-clause-made g c =
     let p = page c.new-lines.result in
     let x = c.enter_again in
     let y = c.release_stops-2 in
-    let s = c.in_ok-check_ground.ensures in
+    let s = c.in_ok-check_desk.ensures in
     let may = subst (λ b. MayAmend v c.args.number c.args.limit c.args.quantity b (Ok c.in_ok-standing.standing)) c.book.ensures (c.in_ok-standing.ensures allows) in
     let fresh : Fresh c.args.report.now p = record { lines = c.new-lines.ensures.lines; written = c.new-lines.ensures.written } in
     made_told lawful allows (g.met.G.PriceGrid.priced c.args.grid.now) d (Amend c.args.number c.args.limit c.args.quantity) c.args.report.now s PriorityLost (contents y.new.desk) (page y.new.report) _ _ c.answer-2.ensures (search rules) may.0

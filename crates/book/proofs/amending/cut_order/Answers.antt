@@ -3,7 +3,7 @@ use Rattle.trading.specs.Calls.{cut, place}
 use Rattle.trading.specs.Desks.{Desk, book_of, capacity}
 use Rattle.lent.specs.Contents.{contents, page}
 use Rattle.lent.specs.Moves.{Comes}
-use Rattle.book.proofs.Cuts.{with_quantity, cut_at, same_state}
+use Rattle.book.proofs.Cuts.{with_quantity, cut_at, same_state, same_stops}
 use Rattle.book.proofs.amending.cut_order.Goals as goal
 
 pub returns-clause-cut : goal.returns-clause-cut
@@ -16,4 +16,5 @@ returns-clause-cut c =
           (cut_at c.args.asked.number c.args.asked.quantity d (page c.args.report.now) (page w.new.report) st.order fit c.requires.cut w.ensures.wrote st.spot s.at s.is);
       few = w.ensures.few;
       state = ap (λ (d' : Desk). d'.state) c.put_order.ensures.put ∙ same_state st.spot (with_quantity st.order c.args.asked.quantity) d;
+      stops = ap (λ (d' : Desk). d'.stops) c.put_order.ensures.put ∙ same_stops st.spot (with_quantity st.order c.args.asked.quantity) d;
     }

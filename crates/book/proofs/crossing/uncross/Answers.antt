@@ -12,19 +12,19 @@ use Rattle.book.proofs.Crossings.{uncrossed_took}
 use Rattle.book.proofs.Openings.{openable}
 use Rattle.book.proofs.crossing.uncross.Goals as goal
 
-pub returns-in_err-check_ground-clause-made : goal.returns-in_err-check_ground-clause-made
-returns-in_err-check_ground-clause-made g c =
+pub returns-in_err-check_desk-clause-made : goal.returns-in_err-check_desk-clause-made
+returns-in_err-check_desk-clause-made g c =
     let p = err_from_is_err_and c.from_residual.result c.from_residual.ensures.1 in
-    rw (p.1, p.2) (made_refusing_all (g.G.PriceGrid.lawful c.args.grid.now) (g.C.Collar.allows c.args.collar.now) (g.met.G.PriceGrid.priced c.args.grid.now) (contents c.args.desk.now) (Uncross c.args.next) c.args.report.now _ c.in_err-check_ground.ensures)
+    rw (p.1, p.2) (made_refusing_all (g.G.PriceGrid.lawful c.args.grid.now) (g.C.Collar.allows c.args.collar.now) (g.met.G.PriceGrid.priced c.args.grid.now) (contents c.args.desk.now) (Uncross c.args.next) c.args.report.now _ c.in_err-check_desk.ensures)
 
 pub returns-in_default-clause-made : goal.returns-in_default-clause-made
 returns-in_default-clause-made g c =
     let n = not_call c.args.desk.now.state.now.phase c.in_default.not-Call in
-    made_turned (g.G.PriceGrid.lawful c.args.grid.now) (g.C.Collar.allows c.args.collar.now) (g.met.G.PriceGrid.priced c.args.grid.now) (contents c.args.desk.now) (Uncross c.args.next) c.args.report.now c.in_ok-check_ground.ensures _ (rw n)
+    made_turned (g.G.PriceGrid.lawful c.args.grid.now) (g.C.Collar.allows c.args.collar.now) (g.met.G.PriceGrid.priced c.args.grid.now) (contents c.args.desk.now) (Uncross c.args.next) c.args.report.now c.in_ok-check_desk.ensures _ (rw n)
 
 pub carry_out_opening-requires : goal.carry_out_opening-requires
 carry_out_opening-requires g c =
-    openable (contents c.args.desk.now) c.args.report.now (page c.new-lines.result) c.in_ok-check_ground.ensures (record { lines = c.new-lines.ensures.lines; written = c.new-lines.ensures.written })
+    openable (contents c.args.desk.now) c.args.report.now (page c.new-lines.result) c.in_ok-check_desk.ensures (record { lines = c.new-lines.ensures.lines; written = c.new-lines.ensures.written })
 
 pub returns-clause-made : goal.returns-clause-made
 returns-clause-made g c =
@@ -33,7 +33,7 @@ returns-clause-made g c =
     let d = contents c.args.desk.now in
     let p = page c.new-lines.result in
     let x = c.carry_out_opening in
-    let s = c.in_ok-check_ground.ensures in
+    let s = c.in_ok-check_desk.ensures in
     let y = ap is_call c.in-Call.is in
     let rule = subst (λ (b : Book). c.in-Ok.opening ≡ opening (grid_of lawful) allows b.static (auction_of b)) c.book-book.ensures c.in-Ok.ensures.rule.2 in
     let fresh : Fresh c.args.report.now p = record { lines = c.new-lines.ensures.lines; written = c.new-lines.ensures.written } in

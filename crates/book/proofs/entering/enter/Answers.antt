@@ -13,10 +13,10 @@ use Rattle.book.proofs.Entries.{ticket_refused, ticket_passed, queues_seen}
 use Rattle.book.proofs.Enterings.{ready_to_enter, ready_to_release, entered_took}
 use Rattle.book.proofs.entering.enter.Goals as goal
 
-pub returns-in_err-check_ground-clause-made : goal.returns-in_err-check_ground-clause-made
-returns-in_err-check_ground-clause-made g c =
+pub returns-in_err-check_desk-clause-made : goal.returns-in_err-check_desk-clause-made
+returns-in_err-check_desk-clause-made g c =
     let p = err_from_is_err_and c.from_residual.result c.from_residual.ensures.1 in
-    rw (p.1, p.2) (made_refusing_all (g.G.PriceGrid.lawful c.args.grid.now) (g.C.Collar.allows c.args.collar.now) (g.met.G.PriceGrid.priced c.args.grid.now) (contents c.args.desk.now) (Enter c.args.ticket) c.args.report.now _ c.in_err-check_ground.ensures)
+    rw (p.1, p.2) (made_refusing_all (g.G.PriceGrid.lawful c.args.grid.now) (g.C.Collar.allows c.args.collar.now) (g.met.G.PriceGrid.priced c.args.grid.now) (contents c.args.desk.now) (Enter c.args.ticket) c.args.report.now _ c.in_err-check_desk.ensures)
 
 pub returns-in_err-check_ticket-clause-made : goal.returns-in_err-check_ticket-clause-made
 returns-in_err-check_ticket-clause-made g c =
@@ -24,7 +24,7 @@ returns-in_err-check_ticket-clause-made g c =
     let d = contents c.args.desk.now in
     let lawful = g.G.PriceGrid.lawful c.args.grid.now in
     let allows = g.C.Collar.allows c.args.collar.now in
-    rw (p.1, p.2) (made_turned lawful allows (g.met.G.PriceGrid.priced c.args.grid.now) d (Enter c.args.ticket) c.args.report.now c.in_ok-check_ground.ensures _
+    rw (p.1, p.2) (made_turned lawful allows (g.met.G.PriceGrid.priced c.args.grid.now) d (Enter c.args.ticket) c.args.report.now c.in_ok-check_desk.ensures _
     (ticket_refused lawful allows (capacity d) c.args.ticket (book_of d) _ c.in_err-check_ticket.ensures))
 
 pub returns-in_err-check_queues-clause-made : goal.returns-in_err-check_queues-clause-made
@@ -33,23 +33,23 @@ returns-in_err-check_queues-clause-made g c =
     let d = contents c.args.desk.now in
     let lawful = g.G.PriceGrid.lawful c.args.grid.now in
     let allows = g.C.Collar.allows c.args.collar.now in
-    rw (p.1, p.2) (made_turned lawful allows (g.met.G.PriceGrid.priced c.args.grid.now) d (Enter c.args.ticket) c.args.report.now c.in_ok-check_ground.ensures _
-    (ticket_passed lawful allows (capacity d) c.args.ticket (book_of d) c.in_ok-check_ticket.ensures ∙ queues_seen (venue_of lawful allows) d c.args.ticket c.capacity_of.result (book_seen c.book.result) _ c.capacity_of.ensures c.book.ensures (c.in_err-check_queues.ensures (grid_of lawful))))
+    rw (p.1, p.2) (made_turned lawful allows (g.met.G.PriceGrid.priced c.args.grid.now) d (Enter c.args.ticket) c.args.report.now c.in_ok-check_desk.ensures _
+    (ticket_passed lawful allows (capacity d) c.args.ticket (book_of d) c.in_ok-check_ticket.ensures ∙ queues_seen (venue_of lawful allows) d c.args.ticket c.capacity_on.result (book_seen c.book.result) _ c.capacity_on.ensures c.book.ensures (c.in_err-check_queues.ensures (grid_of lawful))))
 
 pub check_queues-requires : goal.check_queues-requires
 check_queues-requires g c =
     let d = contents c.args.desk.now in
-    let s = c.in_ok-check_ground.ensures in
-    omega (arith, held_counted d s.counts, s.few, c.capacity_of.ensures, ap held c.book.ensures)
+    let s = c.in_ok-check_desk.ensures in
+    omega (arith, held_counted d s.counts, s.few, c.capacity_on.ensures, ap held c.book.ensures)
 
 pub enter_ticket-requires : goal.enter_ticket-requires
 enter_ticket-requires g c =
     let lawful = g.G.PriceGrid.lawful c.args.grid.now in
     let v = venue_of lawful (g.C.Collar.allows c.args.collar.now) in
     let d = contents c.args.desk.now in
-    let passed = queues_seen v d c.args.ticket c.capacity_of.result (book_seen c.book.result) None c.capacity_of.ensures c.book.ensures (c.in_ok-check_queues.ensures (grid_of lawful)) in
+    let passed = queues_seen v d c.args.ticket c.capacity_on.result (book_seen c.book.result) None c.capacity_on.ensures c.book.ensures (c.in_ok-check_queues.ensures (grid_of lawful)) in
     let fresh : Fresh c.args.report.now (page c.new-lines.result) = record { lines = c.new-lines.ensures.lines; written = c.new-lines.ensures.written } in
-    ready_to_enter v d c.args.ticket c.args.report.now (page c.new-lines.result) c.in_ok-check_ground.ensures fresh passed
+    ready_to_enter v d c.args.ticket c.args.report.now (page c.new-lines.result) c.in_ok-check_desk.ensures fresh passed
 
 pub release_stops-requires : goal.release_stops-requires
 release_stops-requires g c =
@@ -58,9 +58,9 @@ release_stops-requires g c =
     let d = contents c.args.desk.now in
     let p = page c.new-lines.result in
     let x = c.enter_ticket in
-    let passed = queues_seen v d c.args.ticket c.capacity_of.result (book_seen c.book.result) None c.capacity_of.ensures c.book.ensures (c.in_ok-check_queues.ensures (grid_of lawful)) in
+    let passed = queues_seen v d c.args.ticket c.capacity_on.result (book_seen c.book.result) None c.capacity_on.ensures c.book.ensures (c.in_ok-check_queues.ensures (grid_of lawful)) in
     let fresh : Fresh c.args.report.now p = record { lines = c.new-lines.ensures.lines; written = c.new-lines.ensures.written } in
-    let ready = ready_to_enter v d c.args.ticket c.args.report.now p c.in_ok-check_ground.ensures fresh passed in
+    let ready = ready_to_enter v d c.args.ticket c.args.report.now p c.in_ok-check_desk.ensures fresh passed in
     ready_to_release v c.args.ticket d (contents x.new.desk) p (page x.new.report) x.ensures.kept.report.lines_length ready (x.ensures.entered (grid_of lawful))
 
 pub returns-clause-made : goal.returns-clause-made
@@ -72,8 +72,8 @@ returns-clause-made g c =
     let p = page c.new-lines.result in
     let x = c.enter_ticket in
     let y = c.release_stops in
-    let s = c.in_ok-check_ground.ensures in
-    let passed = queues_seen v d c.args.ticket c.capacity_of.result (book_seen c.book.result) None c.capacity_of.ensures c.book.ensures (c.in_ok-check_queues.ensures (grid_of lawful)) in
+    let s = c.in_ok-check_desk.ensures in
+    let passed = queues_seen v d c.args.ticket c.capacity_on.result (book_seen c.book.result) None c.capacity_on.ensures c.book.ensures (c.in_ok-check_queues.ensures (grid_of lawful)) in
     let fresh : Fresh c.args.report.now p = record { lines = c.new-lines.ensures.lines; written = c.new-lines.ensures.written } in
     let ready = ready_to_enter v d c.args.ticket c.args.report.now p s fresh passed in
     made_told lawful allows (g.met.G.PriceGrid.priced c.args.grid.now) d (Enter c.args.ticket) c.args.report.now s Accepted (contents y.new.desk) (page y.new.report) _ _ c.answer.ensures (search rules)

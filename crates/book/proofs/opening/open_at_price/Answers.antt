@@ -5,6 +5,7 @@ use Rattle.lent.specs.Contents.{contents, page}
 use Rattle.sweeping.specs.Beside.{venue}
 use Rattle.sweeping.proofs.Following.{ready_fits}
 use Rattle.uncrossing.proofs.Fronting.{queues_in_front}
+use Rattle.lent.proofs.Behind.{own_stops}
 use Rattle.book.proofs.Openings.{ready_to_release, released_front}
 use Rattle.book.proofs.opening.open_at_price.Goals as goal
 
@@ -24,7 +25,7 @@ release_stops-requires g c =
     let p = page c.args.report.now in
     let x = c.print_and_open in
     let ready = c.requires.ready in
-    ready_to_release d (contents x.new.desk) _ p (page x.new.report) ready (x.ensures.came (capacity d) ready) x.ensures.fewer x.ensures.kept.report.lines_length
+    ready_to_release d (contents x.new.desk) _ p (page x.new.report) ready (own_stops x.ensures.fewer.table (x.ensures.came d.stops (capacity d) ready)) x.ensures.fewer x.ensures.kept.report.lines_length
 
 pub returns-clause-came : goal.returns-clause-came
 returns-clause-came g c grid =
@@ -33,5 +34,5 @@ returns-clause-came g c grid =
     let x = c.print_and_open in
     let y = c.release_stops in
     let ready = c.requires.ready in
-    released_front d (contents x.new.desk) _ p (page x.new.report) ready (x.ensures.came (capacity d) ready) x.ensures.fewer
+    released_front d (contents x.new.desk) _ p (page x.new.report) ready (own_stops x.ensures.fewer.table (x.ensures.came d.stops (capacity d) ready)) x.ensures.fewer
     (venue grid (g.C.Collar.allows c.args.collar.now)) (contents y.new.desk) (page y.new.report) (y.ensures.released grid)

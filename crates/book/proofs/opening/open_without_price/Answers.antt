@@ -1,5 +1,6 @@
 use Rattle.lent.specs.Contents.{contents, page}
 use Rattle.sweeping.specs.Beside.{venue}
+use Rattle.lent.proofs.Behind.{own_stops}
 use Rattle.book.proofs.Openings.{ready_to_release, released_front}
 use Rattle.trading.specs.Desks.{capacity}
 use Rattle.book.proofs.opening.open_without_price.Goals as goal
@@ -10,7 +11,7 @@ release_stops-requires g c =
     let p = page c.args.report.now in
     let x = c.open_unprinted in
     let ready = c.requires.ready in
-    ready_to_release d (contents x.new.desk) _ p (page x.new.report) ready (x.ensures.came (capacity d) ready) x.ensures.fewer x.ensures.kept.report.lines_length
+    ready_to_release d (contents x.new.desk) _ p (page x.new.report) ready (own_stops x.ensures.fewer.table (x.ensures.came d.stops (capacity d) ready)) x.ensures.fewer x.ensures.kept.report.lines_length
 
 pub returns-clause-came : goal.returns-clause-came
 returns-clause-came g c grid =
@@ -19,5 +20,5 @@ returns-clause-came g c grid =
     let x = c.open_unprinted in
     let y = c.release_stops in
     let ready = c.requires.ready in
-    released_front d (contents x.new.desk) _ p (page x.new.report) ready (x.ensures.came (capacity d) ready) x.ensures.fewer
+    released_front d (contents x.new.desk) _ p (page x.new.report) ready (own_stops x.ensures.fewer.table (x.ensures.came d.stops (capacity d) ready)) x.ensures.fewer
     (venue grid (g.C.Collar.allows c.args.collar.now)) (contents y.new.desk) (page y.new.report) (y.ensures.released grid)

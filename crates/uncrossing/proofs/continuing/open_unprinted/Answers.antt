@@ -5,5 +5,5 @@ use Rattle.uncrossing.proofs.continuing.open_unprinted.Goals as goal
 
 pub returns-clause-came : goal.returns-clause-came
 returns-clause-came c =
-    λ n ready.
-    unmet_on without_vfu vfu_lapses c.default.ensures (c.open_rest.ensures.came n (omega (arith, ready.records)) (omega (arith, ready.records)) (omega (arith, ready.records, ready.stops)))
+    λ stops n ready.
+    unmet_on without_vfu vfu_lapses c.default.ensures (c.open_rest.ensures.came stops n (omega (arith, ready.records)) (omega (arith, ready.records)) (omega (arith, ready.records, ready.stops)))
