@@ -88,7 +88,7 @@ impl CallBook {
         Ok(())
     }
 
-    // Names the last price.
+    // Names the last price; the two differ in the field that they write.
     pub(crate) fn set_last_price(&mut self, price: u32) -> Result<(), BookFault>
         ensures { Guarded (is_price price) NotPrice self.old (with_last price self.old) result self.new }
     {

@@ -52,6 +52,7 @@ impl BookFault {
     }
 }
 
+// Each From is written out, so that a clause can name the fault that a `?` makes.
 impl From<EvenFault> for BookFault {
     ghost from_gives = { λ e f. f ≡ EvenGridUnfit e };
 

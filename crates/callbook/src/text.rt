@@ -28,6 +28,7 @@ impl LineFault {
     }
 }
 
+// Written out, so that a clause can name the fault that a `?` makes.
 impl From<ScriptFault> for LineFault {
     ghost from_gives = { λ e f. f ≡ Text e };
 

@@ -1,4 +1,4 @@
-// One of the collars, chosen while a program runs.
+// One of the collars, chosen while a program runs. An enum and no dyn: the kinds are few and known.
 ghost use Rattle.collar.specs.Any.{allows_any};
 
 use crate::{AroundLast, AroundStatic, Collar, FixedBand};

@@ -30,7 +30,8 @@ pub trait Collar {
     // of a static price, a last price and a price: whether the price is allowed
     ghost allows: { Self → ℕ → ℕ → ℕ → Bool };
 
-    // Whether a price is allowed, given the static price and the last price.
+    // Whether a price is allowed, given the static price and the last price: two numbers and no struct, since a sweep moves the one
+    // and leaves the other.
     fn is_allowed(&self, static_price: u32, last: u32, price: u32) -> bool
         ensures { result ≡ allows self.now static_price last price };
 }

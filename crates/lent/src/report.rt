@@ -5,7 +5,8 @@ use trading::ReportLine;
 
 mod writing;
 
-// The lines of a report, of which the first `written` are this call's so far; whoever makes the report lends the lines.
+// The lines of a report, of which the first `written` are this call's so far; whoever makes the report lends the lines. It is no
+// part of a desk, as records join and leave without a line.
 #[derive(Drop)]
 pub struct Report<'a> {
     lines: &'a mut [ReportLine],

@@ -13,7 +13,7 @@ pub struct Message {
     pub fault: LineFault,
 }
 
-// What is told of a fault.
+// What is told of a fault. The wording is this program's; the libraries name faults, and say nothing of them.
 #[derive(Clone, Copy)]
 enum Text {
     Plain(&'static str),

@@ -6,7 +6,7 @@ use crate::{Numbered, Ranked};
 use rules::{Order, Side};
 use trading::StopOrder;
 
-// By side, then by limit: market orders, whose limit is 0, first; then the higher buy limit, or the lower sell limit, of which 0 is the lowest.
+// By side, then by limit: market orders, whose limit is 0, first; then the higher buy limit, or the lower sell limit.
 impl Ranked for Order {
     ghost ahead = { order_ahead };
 

@@ -2,5 +2,4 @@ pub mod Beating
 pub mod Reaching
 pub mod Choosing
 pub mod Opened
-pub mod Totalling
 pub mod Tabled

@@ -16,7 +16,8 @@ pub enum Validity {
     Vfu,
 }
 
-// An order: a limit of 0 makes it a market order, and `open` is the quantity that has not traded yet.
+// An order: a limit of 0 makes it a market order, and `open` is the quantity that has not traded yet. The limit is no Option, since
+// orders lie in memory that a venue lends, and any number may stand there.
 #[derive(Clone, Copy)]
 pub struct Order {
     pub number: u32,
@@ -26,7 +27,7 @@ pub struct Order {
     pub validity: Validity,
 }
 
-// The two sides differ only in the direction of a comparison; one function for both would have to ask for the side first.
+// Two functions, and no side is asked: the list in which an order stands says what it counts for, and not its own side.
 impl Order {
     // Whether the order, standing among the buys, accepts a price: it is a market order, or limited at or above the price.
     pub fn accepts_buying(&self, price: u32) -> bool

@@ -1,3 +1,4 @@
+// The words of a line.
 use std::marker::Model;
 
 // What is left of a line to read, and the place of the word read last.

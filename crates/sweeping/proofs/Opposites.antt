@@ -14,7 +14,6 @@ use Rattle.queue.specs.Lent.{listed}
 use Rattle.lent.specs.Contents.{Page, beside}
 use Rattle.lent.specs.Moves.{Comes}
 use Rattle.sweeping.specs.declared.tables.AfterSweep.{AfterSweep}
-use Rattle.sweeping.specs.declared.orders.Unsettled.{Unsettled}
 use Rattle.sweeping.specs.Steps.{QueueSwept}
 use Rattle.sweeping.specs.Beside.{venue, Roomy, Moves, SweptBy, swept_in, unsettled}
 use Rattle.lent.proofs.Behind.{past_later}
@@ -27,9 +26,6 @@ sells_swept s count last = record { phase = s.phase; buys = s.buys; sells = coun
 abbrev pub buys_swept : State → ℕ → ℕ → State
 buys_swept s count last = record { phase = s.phase; buys = count; sells = s.sells; stops = s.stops; static_price = s.static_price; last = last }
 
-abbrev pub left_of : AfterSweep → Unsettled
-left_of r = record { rest = r.rest; ending = r.ending }
-
 module _ (allows : ℕ → ℕ → ℕ → Bool) (t : Order) where
   -- the sweep and its book, by side
   abbrev swept_as : Side → Book → Swept
@@ -41,7 +37,7 @@ module _ (allows : ℕ → ℕ → ℕ → Bool) (t : Order) where
   module _ (d : Desk) (a q : Queue Order) (p p' : Page) (r : AfterSweep) where
     pub swept_sells : (sells' : List Order) → sells' ≡ q.records.now → t.side ≡ Buy → a.records.now ≡ d.sells → a.count ≡ d.state.sells → length q.records.now ≡ length a.records.now
         → QueueSwept (sweep (allows d.state.static_price) t t.«open» d.state.last (listed a)) a p q p' r
-        → SweptBy allows t d p (desk_of (sells_swept d.state q.count r.last) d.buys sells' d.stops) p' (left_of r)
+        → SweptBy allows t d p (desk_of (sells_swept d.state q.count r.last) d.buys sells' d.stops) p' r
     swept_sells sells' back side table count long x =
         let b = book_of d in
         let w = swept_as Buy b in
@@ -68,7 +64,7 @@ module _ (allows : ℕ → ℕ → ℕ → Bool) (t : Order) where
 
     pub swept_buys : (buys' : List Order) → buys' ≡ q.records.now → t.side ≡ Sell → a.records.now ≡ d.buys → a.count ≡ d.state.buys → length q.records.now ≡ length a.records.now
         → QueueSwept (sweep (allows d.state.static_price) t t.«open» d.state.last (listed a)) a p q p' r
-        → SweptBy allows t d p (desk_of (buys_swept d.state q.count r.last) buys' d.sells d.stops) p' (left_of r)
+        → SweptBy allows t d p (desk_of (buys_swept d.state q.count r.last) buys' d.sells d.stops) p' r
     swept_buys buys' back side table count long x =
         let b = book_of d in
         let w = swept_as Sell b in
@@ -95,13 +91,13 @@ module _ (allows : ℕ → ℕ → ℕ → Bool) (t : Order) where
 
 -- ---- a sweep, and then its rest settled
 
-settled_same : (t : Order) (b b' : Book) (r : Unsettled) (s : Swept) → b ≡ b' → r.rest ≡ s.rest → r.ending ≡ s.ending → settled (is_day t.validity) t b r.rest r.ending ≡ settled (is_day t.validity) t b' s.rest s.ending
+settled_same : (t : Order) (b b' : Book) (r : AfterSweep) (s : Swept) → b ≡ b' → r.rest ≡ s.rest → r.ending ≡ s.ending → settled (is_day t.validity) t b r.rest r.ending ≡ settled (is_day t.validity) t b' s.rest s.ending
 settled_same t b b' r s x y z =
     ap (λ b. settled (is_day t.validity) t b r.rest r.ending) x
     ∙ ap (λ q. settled (is_day t.validity) t b' q r.ending) y
     ∙ ap (settled (is_day t.validity) t b' s.rest) z
 
-pub swept_settled : (g : Grid) (allows : ℕ → ℕ → ℕ → Bool) (t : Order) (d d' d'' : Desk) (p p' p'' : Page) (r : Unsettled)
+pub swept_settled : (g : Grid) (allows : ℕ → ℕ → ℕ → Bool) (t : Order) (d d' d'' : Desk) (p p' p'' : Page) (r : AfterSweep)
     → Roomy d p → length d'.buys ≡ length d.buys → length d'.sells ≡ length d.sells
     → SweptBy allows t d p d' p' r
     → Moves (λ b. settled (is_day t.validity) t b r.rest r.ending) d' p' d'' p''

@@ -12,7 +12,7 @@ use Rattle.trading.specs.Sweeps.{Moved, moved, join, settled}
 use Rattle.trading.specs.Desks.{Desk, desk_of, book_of}
 use Rattle.lent.specs.Contents.{Page, beside}
 use Rattle.lent.specs.Moves.{Comes}
-use Rattle.sweeping.specs.declared.orders.Unsettled.{Unsettled}
+use Rattle.sweeping.specs.declared.tables.AfterSweep.{AfterSweep}
 use Rattle.sweeping.specs.Beside.{Moves}
 use Rattle.lent.proofs.Pages.{written_one}
 use Rattle.sweeping.proofs.Following.{came_none, ready_fits}
@@ -25,7 +25,7 @@ lapses t b rest Collared unfilled = refl
 abbrev pub in_phase : Phase → State → State
 in_phase p s = record { phase = p; buys = s.buys; sells = s.sells; stops = s.stops; static_price = s.static_price; last = s.last }
 
-module _ (t : Order) (r : Unsettled) (d : Desk) (p : Page) where
+module _ (t : Order) (r : AfterSweep) (d : Desk) (p : Page) where
   abbrev move : Book → Moved
   move b = settled (is_day t.validity) t b r.rest r.ending
 

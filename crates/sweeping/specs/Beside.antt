@@ -9,7 +9,7 @@ use Rattle.trading.specs.Desks.{Desk, book_of}
 use Rattle.trading.specs.Moves.{Ready}
 use Rattle.lent.specs.Contents.{Page, beside}
 use Rattle.lent.specs.Moves.{Comes}
-use Rattle.sweeping.specs.declared.orders.Unsettled.{Unsettled}
+use Rattle.sweeping.specs.declared.tables.AfterSweep.{AfterSweep}
 
 -- a venue by its grid and the meaning of its collar
 abbrev pub venue : Grid → (ℕ → ℕ → ℕ → Bool) → Venue
@@ -35,7 +35,7 @@ abbrev pub unsettled : Order → Book → Swept → Moved
 unsettled t b s = moved (with_last s.last (with_opposite t.side s.queue b)) s.trades
 
 -- the sweep of t has come about, and r tells what is left of it
-pub record SweptBy (allows : ℕ → ℕ → ℕ → Bool) (t : Order) (d : Desk) (p : Page) (d' : Desk) (p' : Page) (r : Unsettled) : Type 0 where
+pub record SweptBy (allows : ℕ → ℕ → ℕ → Bool) (t : Order) (d : Desk) (p : Page) (d' : Desk) (p' : Page) (r : AfterSweep) : Type 0 where
   pub moves : Moves (λ b. unsettled t b (swept_in allows t b)) d p d' p'
   pub rest : (stops : List StopOrder) → r.rest ≡ (swept_in allows t (book_of (beside d stops))).rest
   pub ending : (stops : List StopOrder) → r.ending ≡ (swept_in allows t (book_of (beside d stops))).ending

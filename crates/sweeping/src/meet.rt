@@ -27,19 +27,15 @@ pub fn is_day(validity: Validity) -> bool
 pub fn trade_line(order: Order, resting: Order, quantity: u32) -> ReportLine
     ensures { result ≡ trade_with order resting quantity }
 {
-    match order.side {
-        Side::Buy => ReportLine::Trade {
-            buy: order.number,
-            sell: resting.number,
-            price: resting.limit,
-            quantity,
-        },
-        Side::Sell => ReportLine::Trade {
-            buy: resting.number,
-            sell: order.number,
-            price: resting.limit,
-            quantity,
-        },
+    let (buy, sell) = match order.side {
+        Side::Buy => (order.number, resting.number),
+        Side::Sell => (resting.number, order.number),
+    };
+    ReportLine::Trade {
+        buy,
+        sell,
+        price: resting.limit,
+        quantity,
     }
 }
 

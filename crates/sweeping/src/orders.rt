@@ -8,19 +8,12 @@ ghost use Rattle.sweeping.specs.Beside.{venue, Roomy, Moves, SweptBy};
 
 use super::joining::join_order;
 use super::meet::is_day;
-use super::tables::sweep_queue;
+use super::tables::{AfterSweep, sweep_queue};
 use collar::Collar;
 use lent::{Desk, Report};
 use queue::Queue;
 use rules::{Order, Side};
 use trading::{Ending, Phase, ReportLine};
-
-// What is left of an order that has swept, and how its sweep ended.
-#[derive(Clone, Copy)]
-pub struct Unsettled {
-    pub rest: u32,
-    pub ending: Ending,
-}
 
 // An order sweeps the opposite queue.
 pub fn sweep_opposite<C: Collar>(
@@ -28,7 +21,7 @@ pub fn sweep_opposite<C: Collar>(
     desk: &mut Desk<'_>,
     report: &mut Report<'_>,
     order: Order,
-) -> Unsettled
+) -> AfterSweep
     requires { Roomy (contents desk.old) (page report.old) }
     ensures swept { SweptBy (C.allows collar.now) order (contents desk.old) (page report.old) (contents desk.new) (page report.new) result }
     ensures kept { Kept desk.old report.old desk.new report.new }
@@ -41,26 +34,20 @@ pub fn sweep_opposite<C: Collar>(
             let left = sweep_queue(collar, static_price, order, last, &mut queue, report);
             desk.state.sells = queue.len();
             desk.state.last = left.last;
-            Unsettled {
-                rest: left.rest,
-                ending: left.ending,
-            }
+            left
         }
         Side::Sell => {
             let mut queue = Queue::new(desk.buys, desk.state.buys);
             let left = sweep_queue(collar, static_price, order, last, &mut queue, report);
             desk.state.buys = queue.len();
             desk.state.last = left.last;
-            Unsettled {
-                rest: left.rest,
-                ending: left.ending,
-            }
+            left
         }
     }
 }
 
 // What is left of a day order joins, and where the collar refused the book goes to call; what is left of another order lapses.
-pub fn settle_rest(desk: &mut Desk<'_>, report: &mut Report<'_>, order: Order, left: Unsettled)
+pub fn settle_rest(desk: &mut Desk<'_>, report: &mut Report<'_>, order: Order, left: AfterSweep)
     requires buys { desk.old.state.now.buys < length desk.old.buys.now }
     requires sells { desk.old.state.now.sells < length desk.old.sells.now }
     requires line { report.old.written < length report.old.lines.now }

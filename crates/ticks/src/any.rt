@@ -1,4 +1,4 @@
-// One of the three grids, chosen while a program runs.
+// One of the three grids, chosen while a program runs. An enum and no dyn: the kinds are few and known, and a grid is copied.
 ghost use Rattle.ticks.specs.Any.{on_any};
 ghost use Rattle.std.proofs.Common.{arith};
 ghost use Rattle.std.proofs.lemmas.Bool.Decides.{nat_tests};

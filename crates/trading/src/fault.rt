@@ -51,7 +51,7 @@ impl From<Unlawful> for BookFault {
 }
 
 impl BookFault {
-    // The number of the refusal.
+    // The number of the refusal, as it is told; two faults have one number, so it is no discriminant.
     pub fn number(&self) -> u8
         ensures { result ≡ refusal_number self.now }
     {
@@ -59,8 +59,7 @@ impl BookFault {
             BookFault::NumberOutOfRange => 1,
             BookFault::QuantityOutOfRange => 2,
             BookFault::Unpaired => 3,
-            BookFault::LimitUnlawful(_) => 4,
-            BookFault::TriggerUnlawful(_) => 4,
+            BookFault::LimitUnlawful(_) | BookFault::TriggerUnlawful(_) => 4,
             BookFault::OpeningNotPrice => 5,
             BookFault::ReportTooShort => 6,
             BookFault::NotWellFormed => 21,

@@ -14,6 +14,8 @@ pub enum Kind {
     Stop,
 }
 
+// The limit and the trigger stand beside the kind and not in it: a ticket whose parts do not go together can be brought, and is
+// refused.
 #[derive(Clone, Copy)]
 pub struct Ticket {
     pub number: u32,
