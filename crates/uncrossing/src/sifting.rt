@@ -4,7 +4,7 @@ ghost use Rattle.trading.specs.Uncrossings.{lapsing};
 ghost use Rattle.lent.specs.Contents.{page, ReportKept};
 ghost use Rattle.uncrossing.specs.Sifted.{SiftedTo};
 
-use crate::lapsing::Lapsing;
+use crate::lapsing::lapse_line;
 use lent::Report;
 use rules::{Order, Validity};
 
@@ -27,7 +27,7 @@ pub(crate) fn sift(orders: &mut [Order], from: usize, to: usize, report: &mut Re
     for i in from..to {
         let order = orders[i];
         if is_vfu(&order) {
-            report.write(order.lapse_line());
+            report.write(lapse_line(&order));
         } else {
             orders[count] = order;
             count += 1;

@@ -1,4 +1,4 @@
-use Rattle.std.proofs.Common.{take, refl, length-set, drop-set-lt}
+use Rattle.std.proofs.Common.{refl, length-set, drop-set-lt}
 use lib.Seq.{take-set-lt}
 use Rattle.queue.proofs.queue.Queue.replace.Goals as goal
 
