@@ -17,12 +17,11 @@ const MAX_RECORDS: usize = 4_096;
 pub fn capacity_of(tables: &Tables<'_>) -> usize
     ensures { result ≡ capacity_in tables.now }
 {
-    MAX_RECORDS.min(
-        tables
-            .buys
-            .len()
-            .min(tables.sells.len().min(tables.stops.len())),
-    )
+    let shortest = tables
+        .buys
+        .len()
+        .min(tables.sells.len().min(tables.stops.len()));
+    MAX_RECORDS.min(shortest)
 }
 
 // Each count is held to the capacity before they are added up.
