@@ -5,9 +5,9 @@ ghost use Rattle.book.specs.Anywhere.{MadeAnywhere};
 
 use crate::answering::answer;
 use crate::ground::check_desk;
+use crate::opening::close_without_price;
 use lent::{Desk, Report};
 use trading::{Answer, BookFault, Outcome, Phase, ReportLine};
-use uncrossing::close_unprinted;
 
 // Everything lapses, and nothing is taken any more.
 pub fn end(desk: &mut Desk<'_>, report: &mut [ReportLine]) -> Result<Answer, BookFault>
@@ -19,6 +19,6 @@ pub fn end(desk: &mut Desk<'_>, report: &mut [ReportLine]) -> Result<Answer, Boo
         return Err(BookFault::WrongPhase);
     }
     let mut lines = Report::new(report);
-    close_unprinted(desk, &mut lines);
+    close_without_price(desk, &mut lines);
     Ok(answer(desk, &lines, Outcome::Accepted))
 }

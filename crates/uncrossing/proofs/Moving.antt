@@ -2,6 +2,7 @@
 use Rattle.std.proofs.Common.{◌≡◌, ℕ, ◌≤◌, List, ◌++◌, length, drop, refl, ap, ◌∙◌, subst, arith}
 use native.Mathlib.Nat.{sub-zero}
 use Rattle.rules.specs.declared.order.Order.{Order}
+use Rattle.trading.specs.declared.state.State.{State}
 use Rattle.trading.specs.declared.state.Phase.TheVariants.{Continuous}
 use Rattle.trading.specs.declared.report.ReportLine.{ReportLine}
 use Rattle.trading.specs.declared.stop.StopOrder.{StopOrder}
@@ -91,3 +92,12 @@ printed_on {p} {n} {room} {at} {d} {d1} {d'} {page} {page1} {page'} {met} f g h 
         stops = c.beyond.stops ∙ ap (drop n) ts;
       };
     }
+
+-- what is done with a desk is done with one of the same state and tables
+pub done_with : {n : ℕ} {s s1 : State} {bs bs1 ss ss1 : List Order} {stops : List StopOrder} {d' : Desk} {p p' : Page} (met : Met) (f : Book → Book) (g : Book → List ReportLine)
+    → s ≡ s1 → bs ≡ bs1 → ss ≡ ss1
+    → Comes n (moved (f (book_from met (desk_of s bs ss stops))) (g (book_from met (desk_of s bs ss stops)))) (desk_of s bs ss stops) p d' p'
+    → Comes n (moved (f (book_from met (desk_of s1 bs1 ss1 stops))) (g (book_from met (desk_of s1 bs1 ss1 stops)))) (desk_of s1 bs1 ss1 stops) p d' p'
+done_with {n} {s} {s1} {bs} {bs1} {ss} {ss1} {stops} {d'} {p} {p'} met f g same buys sells =
+    let whole : desk_of s bs ss stops ≡ desk_of s1 bs1 ss1 stops = rw (same, buys, sells) in
+    subst (λ d. Comes n (moved (f (book_from met d)) (g (book_from met d))) d p d' p') whole

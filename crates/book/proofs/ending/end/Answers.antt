@@ -25,7 +25,7 @@ pub returns-clause-made : goal.returns-clause-made
 returns-clause-made c lawful allows priced =
     let d = contents c.args.desk.now in
     let p = page c.new-lines.result in
-    let x = c.close_unprinted in
+    let x = c.close_without_price in
     let s = c.in_ok-check_desk.ensures in
     let n = not_ended c.args.desk.now.state.now.phase c.in_default.not-Ended in
     let fresh : Fresh c.args.report.now p = record { lines = c.new-lines.ensures.lines; written = c.new-lines.ensures.written } in
