@@ -1,4 +1,4 @@
-// Amending an order.
+// Amending an order. Where one line is written, room for it is asked of the report at that moment.
 ghost use Rattle.std.specs.Prelude.{◌≡◌, ◌+◌, ◌<◌, ◌≤◌, length};
 ghost use Rattle.rules.specs.Candidates.{Grid};
 ghost use Rattle.trading.specs.declared.request.Request.TheVariants.{Amend};

@@ -1,4 +1,4 @@
-// Entering an order or a stop.
+// Entering an order or a stop. `Roomy` is asked of a desk and a report at one moment; neither could hold it by itself.
 ghost use Rattle.std.specs.Prelude.{◌≡◌, ◌<◌, not, ◌&&◌, length};
 ghost use Rattle.rules.specs.Candidates.{Grid};
 ghost use Rattle.trading.specs.declared.request.Request.TheVariants.{Enter};

@@ -1,4 +1,4 @@
-// What follows the price of an uncrossing.
+// What follows the price of an uncrossing. `Openable` is asked of a desk and a report at one moment; neither could hold it by itself.
 ghost use Rattle.std.specs.Prelude.{ℕ, ◌++◌};
 ghost use Rattle.rules.specs.Candidates.{Grid};
 ghost use Rattle.trading.specs.Desks.{book_of, capacity};

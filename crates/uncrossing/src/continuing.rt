@@ -1,4 +1,4 @@
-// From the call into continuous trading.
+// From the call into continuous trading. What is asked of a desk and a report holds at one moment; neither could hold it by itself.
 ghost use Rattle.std.specs.Prelude.{ℕ, ◌≤◌, List, ◌++◌, length};
 ghost use Rattle.trading.specs.declared.stop.StopOrder.{StopOrder};
 ghost use Rattle.trading.specs.Desks.{book_of};
