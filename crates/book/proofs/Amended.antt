@@ -1,6 +1,5 @@
 -- An amendment has come about.
-use Rattle.std.proofs.Common.{◌≡◌, ℕ, ◌+◌, ◌≤◌, true, false, cond, eqb, leb, List, length, sym, ap, ◌∙◌, arith}
-use Rattle.std.proofs.lemmas.Bool.{and_parts, leb-true}
+use Rattle.std.proofs.Common.{◌≡◌, ℕ, ◌+◌, ◌≤◌, true, false, cond, List, length, sym, ap, ◌∙◌, arith}
 use Rattle.rules.specs.declared.order.Order.{Order}
 use Rattle.trading.specs.declared.answer.Outcome.TheVariants.{PriorityKept, PriorityLost}
 use Rattle.trading.specs.declared.report.ReportLine.{ReportLine}
@@ -20,10 +19,6 @@ use Rattle.lent.specs.Contents.{Page}
 use Rattle.lent.specs.Moves.{Comes}
 use Rattle.book.specs.Amending.{place_as, Stands, AgainCame}
 use Rattle.book.proofs.Coming.{Fresh, told, released_took}
-
--- an order that keeps its priority grows by nothing
-pub no_more : (o : Order) (limit quantity : ℕ) → keeps_priority o limit quantity ≡ true → quantity ≤ o.«open»
-no_more o limit quantity e = leb-true quantity o.«open» (and_parts (eqb o.limit limit) (leb quantity o.«open») e).1
 
 module _ (v : Venue) (n limit quantity : ℕ) (x : Standing) where
   abbrev o : Order

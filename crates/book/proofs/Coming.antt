@@ -12,7 +12,7 @@ use Rattle.trading.specs.Effects.{Effect, lines_of, plainly}
 use Rattle.trading.specs.Calls.{first_fault, checks_of, effect_of}
 use Rattle.trading.specs.Desks.{Desk, book_of, capacity}
 use Rattle.trading.specs.Carried.{written, Took, Untouched}
-use Rattle.trading.specs.Moves.{written_at, Ready, Beyond, Came}
+use Rattle.trading.specs.Moves.{written_at, Beyond, Came}
 use Rattle.lent.specs.Contents.{Page}
 use Rattle.lent.specs.Moves.{Comes}
 use Rattle.checks.specs.Ground.{Standing}
@@ -28,10 +28,6 @@ written_front report ls = rw zero-add
 
 untouched_from : (d d' : Desk) → Beyond (capacity d) d d' → Untouched d d'
 untouched_from d d' b = record { buys_length = b.buys_length; sells_length = b.sells_length; stops_length = b.stops_length; buys_beyond = b.buys; sells_beyond = b.sells; stops_beyond = b.stops }
-
--- a call stands ready for its work
-pub ready_from : (d : Desk) (room : ℕ) → Standing d room → Ready (capacity d) d room 0 0
-ready_from d room s = record { buys = omega arith; sells = omega arith; stops = omega arith; records = omega (arith, s.few); lines = omega (arith, s.few, s.wide) }
 
 -- the lines of an effect, the free ones in their own order, and its book have come about
 pub came_took : (e : Effect) (d : Desk) (report : List ReportLine) (a : Answer) (d' : Desk) (report' : List ReportLine) (end : ℕ)

@@ -1,5 +1,5 @@
 -- An order cut where it stands.
-use Rattle.std.proofs.Common.{◌≡◌, ℕ, ◌+◌, ◌-◌, ◌<◌, ◌≤◌, false, eqb, List, length, get_or, set, sym, refl, ap, ◌∙◌, subst, arith, length-set, length-take, drop-set-lt}
+use Rattle.std.proofs.Common.{◌≡◌, ℕ, ◌+◌, ◌-◌, ◌<◌, ◌≤◌, false, eqb, length, get_or, set, sym, refl, ap, ◌∙◌, subst, arith, length-set, length-take, drop-set-lt}
 use lib.Seq.{take-set-lt}
 use Rattle.std.proofs.lemmas.List.{length-take-le}
 use Rattle.std.proofs.lemmas.Bool.{ne_eqb, cond-false}
@@ -10,11 +10,7 @@ use Rattle.trading.specs.Books.{with_orders, reduced, blank_order, blank_stop}
 use Rattle.trading.specs.Calls.{Place, nowhere, in_buys, in_sells, in_stops, place, cut, cut_by, reduced_by, lapse_above0}
 use Rattle.trading.specs.Desks.{Desk, book_of, capacity}
 use Rattle.lent.specs.Contents.{Page, Wrote}
-use Rattle.lent.specs.Moves.{ReadyFor, Comes}
-use Rattle.trading.specs.declared.state.State.{State}
-use Rattle.trading.specs.declared.report.ReportLine.{ReportLine}
-use Rattle.checks.specs.Ground.{Standing as Sound}
-use Rattle.book.proofs.Coming.{Fresh}
+use Rattle.lent.specs.Moves.{Comes}
 use Rattle.book.specs.declared.finding.Spot.{Spot}
 use Rattle.book.specs.declared.finding.Spot.TheVariants.{Buys, Sells, Stops}
 use Rattle.book.specs.declared.amendment.Standing.{Standing}
@@ -101,16 +97,3 @@ pub same_stops : (spot : Spot) (o : Order) (d : Desk) → (desk_with spot o d).s
 same_stops (Buys i) o d = refl
 same_stops (Sells i) o d = refl
 same_stops (Stops i) o d = refl
-
--- once an order is cut there is room for the release of stops
-pub ready_after_cut : (d d' : Desk) (report : List ReportLine) (p p' : Page) → Sound d (length report) → Fresh report p → d'.state ≡ d.state
-    → length d'.buys ≡ length d.buys → length d'.sells ≡ length d.sells → length d'.stops ≡ length d.stops → length p'.lines ≡ length p.lines → p'.written ≤ p.written + 1 → ReadyFor 0 d' p'
-ready_after_cut d d' report p p' s fresh state buys sells stops lines few =
-    let count = ap (λ (x : State). x.buys + x.sells + x.stops) state in
-    record {
-      buys = omega arith;
-      sells = omega arith;
-      stops = omega arith;
-      records = omega (arith, s.few, count);
-      lines = omega (arith, s.few, s.wide, count, fresh.written, ap length fresh.lines);
-    }

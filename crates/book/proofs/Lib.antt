@@ -1,4 +1,3 @@
-pub mod Spots
 pub mod Leaves
 pub mod Calls
 pub mod Cancels

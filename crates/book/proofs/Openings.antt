@@ -1,5 +1,5 @@
 -- What follows the price of an uncrossing has come about.
-use Rattle.std.proofs.Common.{◌≡◌, ℕ, List, ◌++◌, length, sym, ap, subst, arith}
+use Rattle.std.proofs.Common.{◌≡◌, ℕ, ◌++◌, length, sym, subst, arith}
 use Rattle.std.proofs.lemmas.List.{append-nil, append_assoc}
 use Rattle.rules.specs.declared.opening.Opening.{Opening}
 use Rattle.rules.specs.declared.opening.Opening.TheVariants.{NoPrice, Printed}
@@ -9,19 +9,12 @@ use Rattle.trading.specs.Books.{Venue, Book}
 use Rattle.trading.specs.Sweeps.{Moved, moved, release_all, then_released}
 use Rattle.trading.specs.Uncrossings.{pairs, vfu_lapses, without_vfu, all_lapses, emptied, printed_at, uncrossed_as}
 use Rattle.trading.specs.Desks.{Desk, book_of, capacity}
-use Rattle.trading.specs.Moves.{Ready}
 use Rattle.lent.specs.Contents.{Page}
 use Rattle.lent.specs.Moves.{ReadyFor, Comes}
-use Rattle.checks.specs.Ground.{Standing}
 use Rattle.uncrossing.specs.Fits.{Fewer}
 use Rattle.sweeping.proofs.Following.{same_capacity, came_released}
-use Rattle.trading.specs.declared.report.ReportLine.{ReportLine}
-use Rattle.book.specs.Opened.{Openable, wholly}
-use Rattle.book.proofs.Coming.{Fresh, ready_from, came_as}
-
--- a sound book may open on a fresh page
-pub openable : (d : Desk) (report : List ReportLine) (p : Page) → Standing d (length report) → Fresh report p → Openable d p
-openable d report p s fresh = record { formed = s.formed; ready = subst (λ k. Ready (capacity d) d (length p.lines) k 0) (sym fresh.written) (subst (λ r. Ready (capacity d) d (length r) 0 0) (sym fresh.lines) (ready_from d (length report) s)) }
+use Rattle.book.specs.Opened.{wholly}
+use Rattle.book.proofs.Coming.{came_as}
 
 module _ (d d' : Desk) (m : Moved) (p p' : Page) (ready : ReadyFor 0 d p) (came : Comes (capacity d) m d p d' p') (fewer : Fewer d p d' p') where
   -- there is room for the release of stops
@@ -59,6 +52,3 @@ module _ (n : ℕ) (v : Venue) (d : Desk) (p : Page) (d' : Desk) (p' : Page) whe
   trading_printed price volume c =
       let m = release_all v (without_vfu (printed_at price b)) in
       came_as n m.book _ _ d p d' p' (append_assoc (pairs price b.buys b.sells).trades (vfu_lapses (printed_at price b)) m.lines) c
-
-  pub closed_printed : (price volume : ℕ) → CameTo (moved (emptied (printed_at price b)) ((pairs price b.buys b.sells).trades ++ all_lapses (printed_at price b))) → CameTo (wholly (uncrossed_as v Close b (Printed price volume)))
-  closed_printed price volume c = came_as n (emptied (printed_at price b)) _ _ d p d' p' (ap (λ l. (pairs price b.buys b.sells).trades ++ l) (sym (append-nil (all_lapses (printed_at price b))))) c

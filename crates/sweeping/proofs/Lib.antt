@@ -1,5 +1,4 @@
 pub mod Choosing
-pub mod Meeting
 pub mod Turns
 pub mod Following
 pub mod Joins

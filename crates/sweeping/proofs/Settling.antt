@@ -15,7 +15,7 @@ use Rattle.lent.specs.Moves.{Comes}
 use Rattle.sweeping.specs.declared.tables.AfterSweep.{AfterSweep}
 use Rattle.sweeping.specs.Beside.{Moves}
 use Rattle.lent.proofs.Pages.{written_one}
-use Rattle.sweeping.proofs.Following.{came_none, ready_fits}
+use Rattle.sweeping.proofs.Following.{ready_fits}
 
 lapses : (t : Order) (b : Book) (rest : ℕ) (e : Ending) → (e ≡ Filled → ⊥) → settled false t b rest e ≡ moved b (Lapse t.number rest ∷ [])
 lapses t b rest Filled unfilled = absurd (unfilled refl)
@@ -28,13 +28,6 @@ in_phase p s = record { phase = p; buys = s.buys; sells = s.sells; stops = s.sto
 module _ (t : Order) (r : AfterSweep) (d : Desk) (p : Page) where
   abbrev move : Book → Moved
   move b = settled (is_day t.validity) t b r.rest r.ending
-
-  pub settled_filled : r.ending ≡ Filled → Moves move d p d p
-  settled_filled e = record {
-    came = λ stops n room from ready.
-        subst (λ m. Comes n m (beside d stops) p (beside d stops) p) (sym (ap (settled (is_day t.validity) t (book_of (beside d stops)) r.rest) e)) (came_none n (beside d stops) p.lines p.written (ready_fits n (beside d stops) room from 1 ready));
-    stops = refl;
-  }
 
   pub settled_lapsed : (p' : Page) → is_day t.validity ≡ false → (r.ending ≡ Filled → ⊥) → p.written < length p.lines
       → p'.lines ≡ set p.lines p.written (Lapse t.number r.rest) → p'.written ≡ p.written + 1

@@ -50,9 +50,3 @@ pub record FewerFrom (met : Met) (d : Desk) (p : Page) (d' : Desk) (p' : Page) :
   pub orders : p'.written + (d'.state.buys + d'.state.sells) ≤ p.written + orders_left met d.state
   pub stops : d'.state.stops ≡ d.state.stops
   pub table : d'.stops ≡ d.stops
-
--- no record of a table has changed
-pub record TablesStay (d d' : Desk) : Type 0 where
-  pub buys : d'.buys ≡ d.buys
-  pub sells : d'.sells ≡ d.sells
-  pub stops : d'.stops ≡ d.stops

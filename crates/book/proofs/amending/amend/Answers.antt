@@ -1,4 +1,4 @@
-use Rattle.std.proofs.Common.{Ok, Err, length, sym, ap, subst, arith, rules}
+use Rattle.std.proofs.Common.{Ok, Err, sym, subst, rules}
 use Rattle.std.proofs.lemmas.Result.{err_from_is_err_and}
 use Rattle.rules.specs.Candidates.{grid_of}
 use Rattle.trading.specs.declared.answer.Outcome.TheVariants.{PriorityKept, PriorityLost}
@@ -10,8 +10,8 @@ use Rattle.lent.specs.Contents.{contents, page}
 use Rattle.book.specs.Amending.{MayAmend}
 use Rattle.book.proofs.Calls.{made_refusing_all, made_turned}
 use Rattle.book.proofs.Coming.{Fresh, made_told}
-use Rattle.book.proofs.Cuts.{stands_inside, ready_after_cut}
-use Rattle.book.proofs.Amended.{no_more, kept_took, lost_took}
+use Rattle.book.proofs.Cuts.{stands_inside}
+use Rattle.book.proofs.Amended.{kept_took, lost_took}
 use Rattle.book.proofs.amending.amend.Goals as goal
 
 pub returns-in_err-check_desk-clause-made : goal.returns-in_err-check_desk-clause-made
@@ -27,26 +27,12 @@ returns-in_err-standing-clause-made g c =
     let v = venue_of lawful allows in
     rw (p.1, p.2) (made_turned lawful allows (g.met.G.PriceGrid.priced c.args.grid.now) (contents c.args.desk.now) (Amend c.args.number c.args.limit c.args.quantity) c.args.report.now c.in_ok-check_desk.ensures _ (subst (λ b. MayAmend v c.args.number c.args.limit c.args.quantity b (Err c.in_err-standing.field-0.0)) c.book.ensures (c.in_err-standing.ensures allows)))
 
-pub cut_order-requires : goal.cut_order-requires
-cut_order-requires g c =
+pub cut_order-requires-clause-inside : goal.cut_order-requires-clause-inside
+cut_order-requires-clause-inside g c =
     let allows = g.C.Collar.allows c.args.collar.now in
     let v = venue_of (g.G.PriceGrid.lawful c.args.grid.now) allows in
-    let x = c.in_ok-standing.standing in
-    let n = c.new-lines.ensures in
     let may = subst (λ b. MayAmend v c.args.number c.args.limit c.args.quantity b (Ok c.in_ok-standing.standing)) c.book.ensures (c.in_ok-standing.ensures allows) in
-    record {
-      inside = stands_inside c.args.number (contents c.args.desk.now) x may.1;
-      cut = no_more x.order c.args.limit c.args.quantity (sym c.if-keeps_priority.ensures);
-      line = omega (arith, c.in_ok-check_desk.ensures.wide, n.written, ap length n.lines);
-    }
-
-pub release_stops-requires : goal.release_stops-requires
-release_stops-requires g c =
-    let x = c.cut_order in
-    let k = x.ensures.kept in
-    let p = page c.new-lines.result in
-    let fresh : Fresh c.args.report.now p = record { lines = c.new-lines.ensures.lines; written = c.new-lines.ensures.written } in
-    ready_after_cut (contents c.args.desk.now) (contents x.new.desk) c.args.report.now p (page x.new.report) c.in_ok-check_desk.ensures fresh x.ensures.cut.state k.desk.buys_length k.desk.sells_length k.desk.stops_length k.report.lines_length x.ensures.cut.few
+    stands_inside c.args.number (contents c.args.desk.now) c.in_ok-standing.standing may.1
 
 pub returns-then-keeps_priority-clause-made : goal.returns-then-keeps_priority-clause-made
 returns-then-keeps_priority-clause-made g c =
@@ -64,18 +50,11 @@ returns-then-keeps_priority-clause-made g c =
     (kept_took v c.args.number c.args.limit c.args.quantity c.in_ok-standing.standing d (contents x.new.desk) (contents y.new.desk) c.args.report.now p (page x.new.report) (page y.new.report) s fresh may.1 (y.ensures.released (grid_of lawful))
     (sym c.if-keeps_priority.ensures) x.ensures.cut.few (x.ensures.cut.came (record { counts = s.counts; few = s.few }) may.1))
 
-pub enter_again-requires : goal.enter_again-requires
-enter_again-requires g c =
+pub enter_again-requires-clause-stands : goal.enter_again-requires-clause-stands
+enter_again-requires-clause-stands g c =
     let allows = g.C.Collar.allows c.args.collar.now in
     let v = venue_of (g.G.PriceGrid.lawful c.args.grid.now) allows in
-    let s = c.in_ok-check_desk.ensures in
-    let n = c.new-lines.ensures in
-    let may = subst (λ b. MayAmend v c.args.number c.args.limit c.args.quantity b (Ok c.in_ok-standing.standing)) c.book.ensures (c.in_ok-standing.ensures allows) in
-    record {
-      fit = record { counts = s.counts; few = s.few };
-      stands = may.1;
-      wide = omega (arith, s.wide, n.written, ap length n.lines);
-    }
+    (subst (λ b. MayAmend v c.args.number c.args.limit c.args.quantity b (Ok c.in_ok-standing.standing)) c.book.ensures (c.in_ok-standing.ensures allows)).1
 
 pub release_stops-requires-2 : goal.release_stops-requires-2
 release_stops-requires-2 g c =

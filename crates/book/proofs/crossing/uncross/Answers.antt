@@ -9,7 +9,6 @@ use Rattle.lent.specs.Contents.{contents, page}
 use Rattle.book.proofs.Calls.{made_refusing_all, made_turned, not_call}
 use Rattle.book.proofs.Coming.{Fresh, made_told}
 use Rattle.book.proofs.Crossings.{uncrossed_took}
-use Rattle.book.proofs.Openings.{openable}
 use Rattle.book.proofs.crossing.uncross.Goals as goal
 
 pub returns-in_err-check_desk-clause-made : goal.returns-in_err-check_desk-clause-made
@@ -21,10 +20,6 @@ pub returns-in_default-clause-made : goal.returns-in_default-clause-made
 returns-in_default-clause-made g c =
     let n = not_call c.args.desk.now.state.now.phase c.in_default.not-Call in
     made_turned (g.G.PriceGrid.lawful c.args.grid.now) (g.C.Collar.allows c.args.collar.now) (g.met.G.PriceGrid.priced c.args.grid.now) (contents c.args.desk.now) (Uncross c.args.next) c.args.report.now c.in_ok-check_desk.ensures _ (rw n)
-
-pub carry_out_opening-requires : goal.carry_out_opening-requires
-carry_out_opening-requires g c =
-    openable (contents c.args.desk.now) c.args.report.now (page c.new-lines.result) c.in_ok-check_desk.ensures (record { lines = c.new-lines.ensures.lines; written = c.new-lines.ensures.written })
 
 pub returns-clause-made : goal.returns-clause-made
 returns-clause-made g c =

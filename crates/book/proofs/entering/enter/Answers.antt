@@ -1,10 +1,9 @@
-use Rattle.std.proofs.Common.{None, ap, ◌∙◌, arith, rules}
+use Rattle.std.proofs.Common.{None, ◌∙◌, rules}
 use Rattle.std.proofs.lemmas.Result.{err_from_is_err_and}
 use Rattle.rules.specs.Candidates.{grid_of}
 use Rattle.trading.specs.declared.answer.Outcome.TheVariants.{Accepted}
 use Rattle.trading.specs.declared.request.Request.TheVariants.{Enter}
-use Rattle.trading.specs.Books.{venue_of, held}
-use Rattle.sweeping.proofs.Following.{held_counted}
+use Rattle.trading.specs.Books.{venue_of}
 use Rattle.trading.specs.Desks.{book_of, capacity}
 use Rattle.lent.specs.Contents.{contents, book_seen, page}
 use Rattle.book.proofs.Calls.{made_refusing_all, made_turned}
@@ -35,12 +34,6 @@ returns-in_err-check_queues-clause-made g c =
     let allows = g.C.Collar.allows c.args.collar.now in
     rw (p.1, p.2) (made_turned lawful allows (g.met.G.PriceGrid.priced c.args.grid.now) d (Enter c.args.ticket) c.args.report.now c.in_ok-check_desk.ensures _
     (ticket_passed lawful allows (capacity d) c.args.ticket (book_of d) c.in_ok-check_ticket.ensures ∙ queues_seen (venue_of lawful allows) d c.args.ticket c.capacity_on.result (book_seen c.book.result) _ c.capacity_on.ensures c.book.ensures (c.in_err-check_queues.ensures (grid_of lawful))))
-
-pub check_queues-requires : goal.check_queues-requires
-check_queues-requires g c =
-    let d = contents c.args.desk.now in
-    let s = c.in_ok-check_desk.ensures in
-    omega (arith, held_counted d s.counts, s.few, c.capacity_on.ensures, ap held c.book.ensures)
 
 pub enter_ticket-requires : goal.enter_ticket-requires
 enter_ticket-requires g c =

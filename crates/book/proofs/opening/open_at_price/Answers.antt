@@ -1,23 +1,16 @@
-use Rattle.std.proofs.Common.{arith}
 use Rattle.std.proofs.lemmas.Bool.{and_parts}
 use Rattle.trading.specs.Desks.{book_of, capacity, counts_fit, queues_fit}
 use Rattle.lent.specs.Contents.{contents, page}
 use Rattle.sweeping.specs.Beside.{venue}
-use Rattle.sweeping.proofs.Following.{ready_fits}
 use Rattle.uncrossing.proofs.Fronting.{queues_in_front}
 use Rattle.lent.proofs.Behind.{own_stops}
 use Rattle.book.proofs.Openings.{ready_to_release, released_front}
 use Rattle.book.proofs.opening.open_at_price.Goals as goal
 
-pub print_and_open-requires : goal.print_and_open-requires
-print_and_open-requires g c =
+pub print_and_open-requires-clause-fronts : goal.print_and_open-requires-clause-fronts
+print_and_open-requires-clause-fronts g c =
     let d = contents c.args.desk.now in
-    let ready = c.requires.ready in
-    let counts = ready_fits (capacity d) d _ _ 0 ready in
-    record {
-      fit = record { buys = counts.buys; sells = counts.sells; lines = omega (arith, ready.lines) };
-      fronts = queues_in_front c.args.price (book_of d) (and_parts (counts_fit d) (queues_fit (book_of d)) c.requires.formed).1;
-    }
+    queues_in_front c.args.price (book_of d) (and_parts (counts_fit d) (queues_fit (book_of d)) c.requires.formed).1
 
 pub release_stops-requires : goal.release_stops-requires
 release_stops-requires g c =

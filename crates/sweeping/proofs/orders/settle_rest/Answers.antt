@@ -1,10 +1,7 @@
 use Rattle.std.proofs.Common.{rules}
 use Rattle.lent.specs.Contents.{contents, page}
-use Rattle.sweeping.proofs.Settling.{settled_filled, settled_lapsed, settled_joined, settled_called}
+use Rattle.sweeping.proofs.Settling.{settled_lapsed, settled_joined, settled_called}
 use Rattle.sweeping.proofs.orders.settle_rest.Goals as goal
-
-pub returns-in-Filled-default-clause-settled : goal.returns-in-Filled-default-clause-settled
-returns-in-Filled-default-clause-settled c = settled_filled c.args.order c.args.left (contents c.args.desk.now) (page c.args.report.now) (search rules)
 
 pub returns-in-Nobody-true-clause-settled : goal.returns-in-Nobody-true-clause-settled
 returns-in-Nobody-true-clause-settled c =

@@ -1,16 +1,6 @@
-use Rattle.std.proofs.Common.{arith}
 use Rattle.lent.specs.Contents.{contents, page}
 use Rattle.sweeping.proofs.Opposites.{swept_settled}
 use Rattle.sweeping.proofs.orders.sweep_order.Goals as goal
-
-pub settle_rest-requires-clause-buys : goal.settle_rest-requires-clause-buys
-settle_rest-requires-clause-buys g c = let x = c.sweep_opposite-left.ensures in omega (arith, c.requires.for_buy, x.swept.buys_fall, x.kept.desk.buys_length)
-
-pub settle_rest-requires-clause-sells : goal.settle_rest-requires-clause-sells
-settle_rest-requires-clause-sells g c = let x = c.sweep_opposite-left.ensures in omega (arith, c.requires.for_sell, x.swept.sells_fall, x.kept.desk.sells_length)
-
-pub settle_rest-requires-clause-line : goal.settle_rest-requires-clause-line
-settle_rest-requires-clause-line g c = let x = c.sweep_opposite-left.ensures in omega (arith, c.requires.lines, x.swept.few, x.kept.report.lines_length)
 
 pub returns-clause-swept : goal.returns-clause-swept
 returns-clause-swept g c =

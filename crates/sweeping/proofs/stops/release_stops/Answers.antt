@@ -6,9 +6,6 @@ use Rattle.sweeping.proofs.Following.{ready_fits}
 use Rattle.sweeping.proofs.Releasings.{some_grid, came_to_rest, ready_again, stops_fall, came_on}
 use Rattle.sweeping.proofs.stops.release_stops.Goals as goal
 
-pub releases-init : goal.releases-init
-releases-init g c = (c.requires, λ grid d' p' later. later, search rules)
-
 pub releases-smaller : goal.releases-smaller
 releases-smaller g c =
     let l = c.releases in

@@ -1,11 +1,8 @@
-use Rattle.std.proofs.Common.{refl, arith, rules}
+use Rattle.std.proofs.Common.{rules}
 use Rattle.lent.specs.Contents.{page}
 use Rattle.sweeping.specs.declared.tables.AfterSweep.{AfterSweep}
 use Rattle.sweeping.proofs.Turns.{turn, finished}
 use Rattle.sweeping.proofs.tables.sweep_queue.Goals as goal
-
-pub trades-init : goal.trades-init
-trades-init g c = (record { leads = refl; beyond = refl; count = omega arith; room = λ _. c.requires; table = record { room = refl; lender = refl } }, record { lines = refl; lines_length = refl })
 
 pub trades-preserved : goal.trades-preserved
 trades-preserved g c =
