@@ -17,6 +17,7 @@ pub fn call(desk: &mut Desk<'_>, report: &mut [ReportLine]) -> Result<Answer, Bo
         return Err(BookFault::WrongPhase);
     };
     desk.state.phase = Phase::Call;
+    // no line is written, so that there is no `Report` to answer from
     Ok(Answer {
         outcome: Outcome::Accepted,
         lines: 0,

@@ -30,6 +30,7 @@ pub fn cancel(
         return Err(BookFault::NumberNotLive);
     };
     let quantity = take_out(desk, spot);
+    // one line, so that a `Report`, which counts lines, would say no more
     report[0] = ReportLine::Lapse { number, quantity };
     Ok(Answer {
         outcome: Outcome::Accepted,

@@ -1,4 +1,5 @@
-// Entering an order or a stop. `Roomy` is asked of a desk and a report at one moment; neither could hold it by itself.
+// Entering an order or a stop. `Roomy` is asked of a desk and a report at one moment; neither could hold it by itself. The collar is only
+// read and the order comes by value: neither lies on the desk.
 ghost use Rattle.std.specs.Prelude.{◌≡◌, ◌<◌, not, ◌&&◌, length};
 ghost use Rattle.rules.specs.Candidates.{Grid};
 ghost use Rattle.trading.specs.declared.request.Request.TheVariants.{Enter};

@@ -1,4 +1,4 @@
-// A record leaves its queue.
+// A record leaves its queue. Each arm names its table and its count: a function that lent both by the spot would be no shorter than an arm.
 ghost use Rattle.lent.specs.Contents.{contents, DeskKept};
 ghost use Rattle.book.specs.Out.{Fit, Within, OutOf};
 

@@ -180,6 +180,7 @@ impl From<OrderFault> for Text {
     }
 }
 
+// No Display: the words stand in the text of a limit.
 fn grid_text(fault: GridFault) -> &'static str {
     match fault {
         GridFault::PastLast => "past the last lawful price",

@@ -6,7 +6,8 @@ use crate::{Numbered, Ranked};
 use rules::{Order, Side};
 use trading::StopOrder;
 
-// By side, then by limit: market orders, whose limit is 0, first; then the higher buy limit, or the lower sell limit.
+// By side, then by limit: market orders, whose limit is 0, first; then the higher buy limit, or the lower sell limit. No `Ord`, as of one rank
+// there are many orders.
 impl Ranked for Order {
     ghost ahead = { order_ahead };
 
@@ -42,7 +43,7 @@ impl Numbered for Order {
     }
 }
 
-// By side, then by trigger: the lower buy trigger, or the higher sell trigger, first.
+// By side, then by trigger: the lower buy trigger, or the higher sell trigger, first. No `Ord` here either.
 impl Ranked for StopOrder {
     ghost ahead = { stop_ahead };
 

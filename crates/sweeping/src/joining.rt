@@ -1,4 +1,4 @@
-// An order joins the queue of its side.
+// An order joins the queue of its side. Each arm names its table and its count: a function that lent both by the side would be no shorter.
 ghost use Rattle.std.specs.Prelude.{◌<◌, [], length};
 ghost use Rattle.lent.specs.Contents.{contents, DeskKept, Page};
 ghost use Rattle.trading.specs.Sweeps.{moved, join};

@@ -1,4 +1,5 @@
-// The sweep of an order through a book.
+// The sweep of an order through a book. The collar is only read and the order comes by value: neither lies on the desk. `Roomy` is asked of
+// desk and report at one moment. Each arm of a side names its table and its count.
 ghost use Rattle.std.specs.Prelude.{◌<◌, length};
 ghost use Rattle.rules.specs.Candidates.{Grid};
 ghost use Rattle.lent.specs.Contents.{contents, page, Kept};

@@ -1,4 +1,4 @@
-// The sweep of one queue.
+// The sweep of one queue. Order, collar and static price stay as they are while the queue and the last price move, so they come beside it.
 ghost use Rattle.std.specs.Prelude.{◌+◌, ◌≤◌, length};
 ghost use Rattle.queue.specs.Lent.{listed, Kept};
 ghost use Rattle.lent.specs.Contents.{page, ReportKept};

@@ -1,4 +1,5 @@
-// To the end of the book.
+// To the end of the book. What is asked of tables and report holds at one moment; neither could hold it by itself. The state comes by value
+// beside tables that are only read.
 ghost use Rattle.std.specs.Prelude.{◌≡◌, ℕ, ◌++◌, length};
 ghost use Rattle.trading.specs.Desks.{desk_of, book_of};
 ghost use Rattle.trading.specs.Moves.{Ready};
@@ -58,7 +59,8 @@ pub fn close_unprinted(state: State, tables: &Tables<'_>, report: &mut Report<'_
     close_rest(Met::default(), state, tables, report)
 }
 
-// The price is printed; then everything lapses, and the book is ended. The stops are only read, so that no desk is lent.
+// The price is printed; then everything lapses, and the book is ended. The stops are only read, so that no desk is lent; with that, and what
+// follows the price, this is no twin of the way into continuous trading.
 pub fn print_and_close(
     price: u32,
     state: &mut State,

@@ -1,4 +1,4 @@
-// A price is printed.
+// A price is printed. It comes beside the desk: until then it is not the book's. The premises speak of desk and report at one moment.
 ghost use Rattle.trading.specs.Desks.{book_of};
 ghost use Rattle.lent.specs.Contents.{contents, page, Kept};
 ghost use Rattle.uncrossing.specs.Fits.{OrdersFit};

@@ -23,7 +23,7 @@ pub(crate) fn sift(orders: &mut [Order], from: usize, to: usize, report: &mut Re
     ensures kept { ReportKept report.old report.new }
 {
     let mut count = 0;
-    // by index: what lasts is moved within the table that the loop reads
+    // by index, from a place on: what lasts is moved to the front of the table that the loop reads
     for i in from..to {
         let order = orders[i];
         if is_vfu(&order) {

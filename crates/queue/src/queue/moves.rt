@@ -19,7 +19,7 @@ fn place_of<R: Ranked>(queue: &[R], r: &R) -> usize
 }
 
 impl<'a, R: Ranked + Copy> Queue<'a, R> {
-    // The queue of the first `count` records of a table.
+    // The queue of the first `count` records of a table; the count stands in the state of a book, apart from the table.
     pub fn new(records: &'a mut [R], count: usize) -> Queue<'a, R>
         requires { count ≤ length records.old }
         ensures records { result.records.now ≡ records.old }
