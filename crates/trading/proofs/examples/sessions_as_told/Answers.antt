@@ -13,6 +13,7 @@ use Rattle.trading.proofs.examples.sessions_as_told.Goals as goal
 pub returns : goal.returns
 unfolding first_above first_below buy_total sell_total around_limits best_from joined first_that without_first first_changed sweep sweeps release meets pairs lapses_by enter_effect amend_effect cancel_effect run
 returns c = record {
+  nought = refl;
   rows = (refl, (refl, (refl, (refl, (refl, (refl, (refl, (refl, (refl, (refl, (refl, (refl, (refl, (refl, (refl, (refl, (refl, (refl, (refl, (refl, (refl, (refl, (refl, (refl, (refl, (refl, (refl, (refl, (refl, (refl, (refl, (refl, (refl, (refl, (refl, (refl, (refl, (refl, (refl, (refl, (refl, (refl, (refl, (refl, (refl, (refl, (refl, (refl, (refl, (refl, (refl, (refl, (refl, (refl, (refl, (refl, (refl, (refl, (refl, (refl, (refl, tt)))))))))))))))))))))))))))))))))))))))))))))))))))))))))))));
   openings = (refl, (refl, (refl, (refl, tt))));
   ten = (rows_right, refl);
