@@ -49,6 +49,10 @@ impl PriceGrid for EvenGrid {
         if p < self.first {
             return Some(self.first);
         }
+        // asked first, since a row of a tick table that lies below the number would divide for nothing
+        if p >= self.last {
+            return None;
+        }
         let rise = self.step - (p - self.first) % self.step;
         let next = p.checked_add(rise)?;
         (next <= self.last).then_some(next)

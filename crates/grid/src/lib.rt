@@ -40,10 +40,10 @@ pub trait PriceGrid {
         if p > 0 && self.above(p - 1) == Some(p) {
             return Ok(());
         }
-        match (self.above(p), self.below(p)) {
-            (None, _) => Err(GridFault::PastLast),
-            (Some(_), None) => Err(GridFault::BelowFirst),
-            (Some(_), Some(_)) => Err(GridFault::BetweenSteps),
+        match self.above(p) {
+            None => Err(GridFault::PastLast),
+            Some(_) if self.below(p).is_none() => Err(GridFault::BelowFirst),
+            Some(_) => Err(GridFault::BetweenSteps),
         }
     }
 
