@@ -1,25 +1,21 @@
 // What a price executes.
-ghost use Rattle.std.specs.Prelude.{◌≡◌, Bool};
+ghost use Rattle.std.specs.Prelude.{◌≡◌, ℕ};
 ghost use Rattle.std.specs.Fn.{FnReturnsAt};
 ghost use Rattle.rules.specs.declared.order.Order.{Order};
 ghost use Rattle.rules.specs.Auctions.{total, buy_total, sell_total, score_of};
 ghost use Rattle.pricing.specs.Few.{Few};
-ghost use Rattle.pricing.specs.Calls.{auction_of, open_if};
+ghost use Rattle.pricing.specs.Calls.{auction_of};
 
 use crate::auction::CallAuction;
 use rules::{Order, Score};
 
-// What the orders that pass a test have open.
-fn open_total<F: Fn(&Order) -> bool>(orders: &[Order], accepts: F) -> u64
-    requires callable { F.IsAlwaysCallable accepts }
+// What the orders have open, of each as much as counts. Its two callers tell that by `then_some`, which leaves no branch in the loop.
+fn open_total<F: Fn(&Order) -> u32>(orders: &[Order], counts: F) -> u64
+    requires callable { F.IsAlwaysCallable counts }
     requires few { Few orders.now }
-    ensures { (test : Order → Bool) → ((o : Order) (b : Bool) → FnReturnsAt F.Fn accepts o b → b ≡ test o) → result ≡ total (open_if test) orders.now }
+    ensures { (amount : Order → ℕ) → ((o : Order) (n : ℕ) → FnReturnsAt F.Fn counts o n → n ≡ amount o) → result ≡ total amount orders.now }
 {
-    orders
-        .iter()
-        .filter(|order| accepts(order))
-        .map(|order| u64::from(order.open))
-        .sum()
+    orders.iter().map(|order| u64::from(counts(order))).sum()
 }
 
 impl CallAuction<'_> {
@@ -27,14 +23,26 @@ impl CallAuction<'_> {
     fn buy_total(&self, price: u32) -> u64
         ensures { result ≡ buy_total self.now.buys.now price }
     {
-        open_total(self.buys, |order| order.accepts_buying(price))
+        open_total(
+            self.buys,
+            |order| order
+                .accepts_buying(price)
+                .then_some(order.open)
+                .unwrap_or(0),
+        )
     }
 
     // The sell total at a price: what the sells that accept it have open.
     fn sell_total(&self, price: u32) -> u64
         ensures { result ≡ sell_total self.now.sells.now price }
     {
-        open_total(self.sells, |order| order.accepts_selling(price))
+        open_total(
+            self.sells,
+            |order| order
+                .accepts_selling(price)
+                .then_some(order.open)
+                .unwrap_or(0),
+        )
     }
 
     // A price with what it executes: the smaller total, and the difference of the totals without sign.

@@ -1,8 +1,7 @@
 use Rattle.std.proofs.Common.{rules}
-use Rattle.rules.specs.Accepts.{accepts_buying}
-use Rattle.rules.specs.Auctions.{buy_total}
+use Rattle.rules.specs.Auctions.{bought_at, buy_total}
 use Rattle.pricing.proofs.auction.CallAuction.buy_total.Goals as goal
 
 pub returns : goal.returns
 unfolding buy_total
-returns c = c.open_total.ensures (accepts_buying c.args.price) (λ o b k. search rules)
+returns c = c.open_total.ensures (bought_at c.args.price) (λ o n k. search rules)
